@@ -1,0 +1,13 @@
+-- The working form of a stretch: how long since each signal's red last ended. No proof after this one speaks of single instants. Assumes nothing.
+use Prim.Native.Nat.{ℕ, _+_, _≤_, _<_}
+use lib.IntN.{pos, _-ℤ_}
+use Rattle.circle.specs.Man.{man}
+use Rattle.circle.specs.Bands.{Way}
+
+-- the time since signal j's red last ended, as the departure at x comes by
+abbrev pub since : Way → ℕ → ℕ → ℕ
+since w x j = man (w .around) (pos (x + w .lag j) -ℤ pos (w .start j + w .length j))
+
+-- k departures from x on pass every signal that has a red before that red comes round again
+pub record Passes (w : Way) (x k : ℕ) : Type 0 where
+  pub each : (j : ℕ) → j < w .signals → 0 < w .length j → since w x j + k + w .length j ≤ w .around

@@ -1,0 +1,174 @@
+-- No offsets give two bands that together exceed 2B. For a departure each way, let κ(j) be the time since j's red ended outbound plus the time until it starts again
+-- inbound. Round the cycle κ(j) - κ(i) is twice u's argument for the pair, so under one of the two phases u(i,j) is H less half that difference. Where i has the least κ
+-- of the signals with a red, every pair's width is then at least half of the two bands. Assumes nothing.
+use Prim.Native.Nat.{ℕ, zero, suc, _+_, _-_, _*_, _/_, _%_, _≤_, _<_}
+use mathlib.Core.Path.{_≡_, ap, ap₂, _∙_}
+use mathlib.Core.Bool.{true}
+use mathlib.Core.Logic.{_⊎_, inl, inr, ⊎-elim}
+use native.Mathlib.Omega.{arith}
+use native.Mathlib.Decide.{decLt, decLe}
+use native.Mathlib.Nat.{eq-or-lt-of-le, le-of-suc-le-suc}
+use lib.IntN.{pos, _+ℤ_}
+use borrow.Author.Tests.{le-leb}
+use Rattle.circle.specs.Signed.{leℤ}
+use Rattle.circle.specs.Method.{Timed, halves, B}
+use Rattle.circle.specs.Bands.{outboundWay, inboundWay}
+use Rattle.circle.proofs.Signed.{sub-eq, pos-sub, add-sub, le-sub}
+use Rattle.circle.proofs.Man.{Turns}
+use Rattle.circle.proofs.Over.{minBelow, maxBelow, max-ge}
+use Rattle.circle.proofs.Method.{u-is}
+use Rattle.circle.proofs.Raised.{Fit, raised, larger-raised, top, b⁺, B-raised}
+use Rattle.circle.proofs.Arcs.{since, Passes}
+use Rattle.circle.proofs.Since.{Stops, Rising, since-turns}
+
+-- among the indices below n where g is above 0, one with the least f
+pub record Least (n : ℕ) (g f : ℕ → ℕ) : Type 0 where
+  pub at : ℕ
+  pub below : at < n
+  pub counts : 0 < g at
+  pub least : (j : ℕ) → j < n → 0 < g j → f at ≤ f j
+
+-- how it grows by one index: the new one takes over, or the old one stays
+module _ (n : ℕ) (g f : ℕ → ℕ) where
+  over : 0 < g n → ((j : ℕ) → j < n → 0 < g j → f n ≤ f j) → Least (suc n) g f
+  over counts before =
+      record {
+        at = n;
+        below = omega arith;
+        counts = counts;
+        least =
+            λ j l c.
+            ⊎-elim
+            (λ e. let same : f j ≡ f n = ap f e in omega arith)
+            (λ m. before j m c)
+            (eq-or-lt-of-le (le-of-suc-le-suc l));
+      }
+
+  stay : (m : Least n g f) → (0 < g n → f (m .at) ≤ f n) → Least (suc n) g f
+  stay m last =
+      record {
+        at = m .at;
+        below = omega (arith, m .below);
+        counts = m .counts;
+        least =
+            λ j l c.
+            ⊎-elim
+            (λ e.
+            let same : f j ≡ f n = ap f e in
+            let here : g j ≡ g n = ap g e in
+            let k : f (m .at) ≤ f n = last (omega arith) in
+            omega arith)
+            (λ h. m .least j h c)
+            (eq-or-lt-of-le (le-of-suc-le-suc l));
+      }
+
+  grow : Dec (0 < g n) → Least n g f ⊎ ((j : ℕ) → j < n → 0 < g j → ⊥) → Least (suc n) g f ⊎ ((j : ℕ) → j < suc n → 0 < g j → ⊥)
+  grow (yes c) (inr none) = inl (over c (λ j l d. absurd (none j l d)))
+  grow (no c) (inl m) = inl (stay m (λ d. absurd (c d)))
+  grow (no c) (inr none) =
+      inr
+      (λ j l d.
+      ⊎-elim (λ e. let here : g j ≡ g n = ap g e in omega (arith, c)) (λ h. none j h d) (eq-or-lt-of-le (le-of-suc-le-suc l)))
+  grow (yes c) (inl m) = inl (pick (decLe (f n) (f (m .at))))
+    where
+      pick : Dec (f n ≤ f (m .at)) → Least (suc n) g f
+      pick (yes l) = over c (λ j h d. let k = m .least j h d in omega arith)
+      pick (no l) = stay m (λ d. omega arith)
+
+least-or-none : (n : ℕ) (g f : ℕ → ℕ) → Least n g f ⊎ ((j : ℕ) → j < n → 0 < g j → ⊥)
+least-or-none zero g f = inr (λ j l c. omega arith)
+least-or-none (suc n) g f = grow n g f (decLt 0 (g n)) (least-or-none n g f)
+
+pub least-where : (n : ℕ) (g f : ℕ → ℕ) (k : ℕ) → k < n → 0 < g k → Least n g f
+least-where n g f k l c = ⊎-elim (λ m. m) (λ none. absurd (none k l c)) (least-or-none n g f)
+
+-- the difference of the two departures at one signal: the offset and the red cancel
+both : (H a b σ x y A Q Qn : ℕ) → Q ≤ Qn → Turns H (a + σ) (x + 2 * A) → Turns H (b + σ) (y + 2 * (Qn - Q)) → Turns H (a + (y + 2 * Qn)) (b + (x + 2 * (A + Q)))
+both H a b σ x y A Q Qn l c d =
+    record { p = c .p + d .q; q = c .q + d .p; eq = omega (arith, c .eq, d .eq) }
+
+-- half of an even difference, in turns of C, is a number in turns of 2C under one of the two phases
+phased : (C k m n : ℕ) → Turns C (k + m) n → Turns (2 * C) (k + (m + 0)) n ⊎ Turns (2 * C) (k + (m + C)) n
+phased C k m n c = go (decLt 0 ((c .p + c .q) % 2))
+  where
+    go : Dec (0 < (c .p + c .q) % 2) → Turns (2 * C) (k + (m + 0)) n ⊎ Turns (2 * C) (k + (m + C)) n
+    go (yes l) =
+        let e : c .p + c .q ≡ 2 * ((c .p + c .q) / 2) + 1 = omega arith in
+        inr (record { p = (c .p + c .q) / 2; q = c .q; eq = omega (arith, c .eq, ap (λ (z : ℕ). z * C) e) })
+    go (no l) =
+        let e : c .p + c .q ≡ 2 * ((c .p + c .q) / 2) = omega arith in
+        inl (record { p = (c .p + c .q) / 2; q = c .q; eq = omega (arith, c .eq, ap (λ (z : ℕ). z * C) e) })
+
+-- one pair of signals: half the difference of their κ, round the cycle, is what u subtracts from H, and it leaves room for half of the two bands
+pair : (C a b r y a′ b′ r′ y′ v v′ o x : ℕ) → b + v′ + 2 * r ≤ 2 * C → b′ + v′ + 2 * r′ ≤ 2 * C → a′ + v + 2 * r′ ≤ 2 * C → a + (2 * C - (b + 2 * r)) ≤ a′ + (2 * C - (b′ + 2 * r′)) → Turns (2 * C) (a + o) (b + (x + 2 * y)) → Turns (2 * C) (a′ + o) (b′ + (x + 2 * y′)) → (k : ℕ) × (2 * k + 4 * r′ + (v + v′) ≤ 4 * C) × Turns C (k + (r′ + y)) (r + y′)
+pair C a b r y a′ b′ r′ y′ v v′ o x l l′ m least c d =
+    let P : ℕ = r′ + y + (d .p + c .q) * C in
+    let Q : ℕ = r + y′ + (d .q + c .p) * C in
+    let order : a + b′ + 2 * r′ ≤ a′ + b + 2 * r = omega arith in
+    let twice : 2 * Q + (a + b′ + 2 * r′) ≡ a′ + b + 2 * r + 2 * P = omega (arith, c .eq, d .eq) in
+    (Q - P, omega arith, record { p = d .p + c .q; q = d .q + c .p; eq = omega arith })
+
+-- κ(j): the time since j's red ended, outbound, and the time until it starts again, inbound
+κ : Timed → (ℕ → ℕ) → ℕ → ℕ → ℕ → ℕ
+κ s f x y j = since (outboundWay s f) x j + (2 * s .cycle - (since (inboundWay s f) y j + 2 * s .red j))
+
+module _ (s : Timed) (fit : Fit s) (rising : Rising s) (f : ℕ → ℕ) (x y v v′ : ℕ) (some : 1 ≤ v + v′) (out : Passes (outboundWay s f) x v) (back : Passes (inboundWay s f) y v′) where
+  apart : (j : ℕ) → j < s .signals → Turns (2 * s .cycle) (since (outboundWay s f) x j + (y + 2 * s .inbound (s .signals - 1))) (since (inboundWay s f) y j + (x + 2 * (s .outbound j + s .inbound j)))
+  apart j l =
+      let turns : 0 < 2 * s .cycle = omega (arith, fit .turns) in
+      both (2 * s .cycle) _ _ _ x y (s .outbound j) (s .inbound j) (s .inbound (s .signals - 1)) (rising j l) (since-turns (outboundWay s f) x j turns) (since-turns (inboundWay s f) y j turns)
+
+  -- what k leaves of the pair's width, under the phase that k belongs to
+  wide : (i j e k : ℕ) → 2 * k + 4 * s .red j + (v + v′) ≤ 4 * s .cycle → Turns (2 * s .cycle) (k + (s .red j + s .outbound i + s .inbound i + e)) (s .red i + s .outbound j + s .inbound j) → v + v′ + 2 * halves s ≤ 2 * raised s i j e
+  wide i j e k room turns =
+      let same = u-is s i j e k (omega arith) turns in
+      omega arith
+
+  reaches : (i j : ℕ) → i < s .signals → j < s .signals → 0 < s .red i → 0 < s .red j → κ s f x y i ≤ κ s f x y j → v + v′ + 2 * halves s ≤ 2 * larger-raised s i j
+  unfolding κ
+  reaches i j li lj ri rj least =
+      let α = since (outboundWay s f) x in
+      let β = since (inboundWay s f) y in
+      let k = pair (s .cycle) (α i) (β i) (s .red i) (s .outbound i + s .inbound i) (α j) (β j) (s .red j) (s .outbound j + s .inbound j) v v′ (y + 2 * s .inbound (s .signals - 1)) x (back .each i li (omega arith)) (back .each j lj (omega arith)) (out .each j lj (omega arith)) least (apart i li) (apart j lj) in
+      ⊎-elim
+      (λ c. let w = wide i j 0 (k .0) (k .1) c in omega arith)
+      (λ c. let w = wide i j (s .cycle) (k .0) (k .1) c in omega arith)
+      (phased (s .cycle) (k .0) (s .red j + s .outbound i + s .inbound i) (s .red i + s .outbound j + s .inbound j)
+      (record { p = k .2 .p; q = k .2 .q; eq = omega (arith, k .2 .eq) }))
+
+  -- some signal with a red has every pair that it forms with a signal with a red at least half as wide as the two bands
+  pub widest : (k : ℕ) → k < s .signals → 0 < s .red k → (i : ℕ) × (i < s .signals) × (0 < s .red i) × ((j : ℕ) → j < s .signals → 0 < s .red j → v + v′ + 2 * halves s ≤ 2 * larger-raised s i j)
+  widest k l r =
+      let m = least-where (s .signals) (s .red) (κ s f x y) k l r in
+      (m .at, m .below, m .counts, λ j lj rj. reaches (m .at) j (m .below) lj (m .counts) rj (m .least j lj rj))
+
+-- a bound for each is one for the least
+min-from : (x top n : ℕ) (g : ℕ → ℕ) → x ≤ 2 * top → ((j : ℕ) → j < n → x ≤ 2 * g j) → x ≤ 2 * minBelow top n g
+unfolding minBelow
+min-from x top zero g l each = l
+min-from x top (suc n) g l each =
+    let before = min-from x top n g l (λ j h. each j (omega arith)) in
+    let last = each n (omega arith) in
+    omega arith
+
+module _ (s : Timed) (fit : Fit s) (stops : Stops s) (rising : Rising s) (f : ℕ → ℕ) where
+  -- under any offsets the two bands together, raised by two cycles, are at most twice the raised B
+  pub bound : (x y v v′ : ℕ) → 1 ≤ v + v′ → Passes (outboundWay s f) x v → Passes (inboundWay s f) y v′ → v + v′ + 2 * halves s ≤ 2 * maxBelow (s .signals) (b⁺ s)
+  unfolding b⁺
+  bound x y v v′ some out back =
+      let first : 0 < s .signals = fit .some in
+      let (i, l, r, each) = widest s fit rising f x y v v′ some out back 0 first (stops 0 first) in
+      let most = max-ge (s .signals) (b⁺ s) i l in
+      let least = min-from (v + v′ + 2 * halves s) (4 * s .cycle) (s .signals) (larger-raised s i) (omega (arith, each i l r, top s fit i i l)) (λ j h. each j h (stops j h)) in
+      omega arith
+
+  pub bound-signed : (x y v v′ : ℕ) → 1 ≤ v + v′ → Passes (outboundWay s f) x v → Passes (inboundWay s f) y v′ → leℤ (pos (v + v′)) (B s +ℤ B s) ≡ true
+  bound-signed x y v v′ some out back =
+      let Bp = maxBelow (s .signals) (b⁺ s) in
+      let H = halves s in
+      let most : v + v′ + 2 * H ≤ Bp + Bp = omega (arith, bound x y v v′ some out back) in
+      ap₂ leℤ
+      (pos-sub (v + v′) ∙ sub-eq (v + v′) 0 (v + v′ + 2 * H) (H + H) (omega arith))
+      (ap₂ _+ℤ_ (B-raised s fit) (B-raised s fit) ∙ add-sub Bp H Bp H)
+      ∙ le-sub (v + v′ + 2 * H) (Bp + Bp) (H + H)
+      ∙ le-leb (v + v′ + 2 * H) (Bp + Bp) most

@@ -1,0 +1,13 @@
+pub mod Signed
+pub mod Man
+pub mod Over
+pub mod Method
+pub mod Raised
+pub mod Arcs
+pub mod Since
+pub mod Bound
+pub mod Reflection
+pub mod Reference
+pub mod Named
+pub mod Perturbation
+pub mod Scale

@@ -1,0 +1,104 @@
+-- What the reference and its phases attain: the reference's raised b is the greatest, each signal's phase against it has the larger of the pair's two widths, so every
+-- signal's u under that phase leaves at least B beside its red; and the reference itself has phase 0 and offset 0. Assumes nothing.
+use Prim.Native.Nat.{ℕ, zero, suc, _+_, _-_, _*_, _≤_, _<_}
+use mathlib.Core.Path.{_≡_, ap, ap₂, subst, _∙_}
+use mathlib.Core.Bool.{cond}
+use mathlib.Core.Logic.{⊎-elim}
+use native.Mathlib.Omega.{arith}
+use native.Mathlib.Decide.{decLe}
+use native.Mathlib.Nat.{eq-or-lt-of-le, le-of-suc-le-suc}
+use lib.IntN.{pos, _-ℤ_}
+use lib.Dec.{leb}
+use borrow.Author.Tests.{le-leb, lt-leb}
+use Rattle.circle.specs.Signed.{leℤ}
+use Rattle.circle.specs.Man.{man}
+use Rattle.circle.specs.Method.{Timed, halves, u, pairWidth, reference, phase, offset}
+use Rattle.circle.proofs.Signed.{le-sub}
+use Rattle.circle.proofs.Man.{Turns, man-lt, man-turns}
+use Rattle.circle.proofs.Over.{minBelow, maxBelow, max-ge}
+use Rattle.circle.proofs.Method.{u-is, u-range, raised-width, offset-is}
+use Rattle.circle.proofs.Raised.{Fit, raised, larger-raised, b⁺, low, reference-is}
+
+-- the first index that attains the greatest
+pub record First (n : ℕ) (g : ℕ → ℕ) (c : ℕ) : Type 0 where
+  pub below : c < n
+  pub best : g c ≡ maxBelow n g
+  pub before : (k : ℕ) → k < c → g k < maxBelow n g
+
+first-best : (n : ℕ) (g : ℕ → ℕ) → 0 < n → (c : ℕ) × First n g c
+unfolding maxBelow
+first-best zero g l = absurd (omega arith)
+first-best (suc zero) g l =
+    (0, record { below = omega arith; best = omega arith; before = λ k h. absurd (omega arith) })
+first-best (suc (suc n)) g l = go (decLe (g (suc n)) (maxBelow (suc n) g)) (first-best (suc n) g (omega arith))
+  where
+    go : Dec (g (suc n) ≤ maxBelow (suc n) g) → ((c : ℕ) × First (suc n) g c) → (c : ℕ) × First (suc (suc n)) g c
+    go (yes h) (c, m) =
+        (c, record { below = omega (arith, m .below); best = omega (arith, m .best); before = λ k i. omega (arith, m .before k i) })
+    go (no h) m =
+        (suc n, record { below = omega arith; best = omega arith; before = λ k i. omega (arith, max-ge (suc n) g k i) })
+
+min-at : (top n : ℕ) (g : ℕ → ℕ) (k : ℕ) → k < n → minBelow top n g ≤ g k
+unfolding minBelow
+min-at top zero g k l = absurd (omega arith)
+min-at top (suc n) g k l =
+    ⊎-elim
+    (λ e. let here : g k ≡ g n = ap g e in omega arith)
+    (λ m. let below = min-at top n g k m in omega arith)
+    (eq-or-lt-of-le (le-of-suc-le-suc l))
+
+-- from u back to what it is the remainder of
+pub u-turns : (s : Timed) (i j e : ℕ) → 0 < halves s → Turns (halves s) (halves s - u s i j e + (s .red j + s .outbound i + s .inbound i + e)) (s .red i + s .outbound j + s .inbound j)
+u-turns s i j e h =
+    let a = s .red i + s .outbound j + s .inbound j in
+    let d = s .red j + s .outbound i + s .inbound i + e in
+    let c = man-turns (halves s) a d h in
+    let less = man-lt (halves s) (pos a -ℤ pos d) h in
+    let same = u-is s i j e (man (halves s) (pos a -ℤ pos d)) less c in
+    record { p = c .p; q = c .q; eq = omega (arith, c .eq, same, less) }
+
+module _ (s : Timed) (fit : Fit s) where
+  pub reference-first : First (s .signals) (b⁺ s) (reference s)
+  reference-first =
+      let (c, m) = first-best (s .signals) (b⁺ s) (fit .some) in
+      subst (First (s .signals) (b⁺ s)) (reference-is s fit c (m .below) (m .best) (m .before)) m
+
+  -- which of the two widths the phase goes by
+  phase-test : (i j : ℕ) → j < s .signals → leℤ (pairWidth s i j (s .cycle)) (pairWidth s i j 0) ≡ leb (raised s i j (s .cycle)) (raised s i j 0)
+  phase-test i j l =
+      ap₂ leℤ (raised-width s i j (s .cycle) (low s fit j l)) (raised-width s i j 0 (low s fit j l))
+      ∙ le-sub (raised s i j (s .cycle)) (raised s i j 0) (halves s)
+
+  phase-larger : (i j : ℕ) → j < s .signals → raised s i j (phase s i j) ≡ larger-raised s i j
+  unfolding phase
+  phase-larger i j l = go (decLe (raised s i j (s .cycle)) (raised s i j 0))
+    where
+      go : Dec (raised s i j (s .cycle) ≤ raised s i j 0) → raised s i j (cond (leℤ (pairWidth s i j (s .cycle)) (pairWidth s i j 0)) 0 (s .cycle)) ≡ larger-raised s i j
+      go (yes h) =
+          let e : raised s i j 0 ≡ larger-raised s i j = omega arith in
+          ap (λ p. raised s i j (cond p 0 (s .cycle))) (phase-test i j l ∙ le-leb (raised s i j (s .cycle)) (raised s i j 0) h) ∙ e
+      go (no h) =
+          let m : raised s i j 0 < raised s i j (s .cycle) = omega arith in
+          let e : raised s i j (s .cycle) ≡ larger-raised s i j = omega arith in
+          ap (λ p. raised s i j (cond p 0 (s .cycle))) (phase-test i j l ∙ lt-leb (raised s i j (s .cycle)) (raised s i j 0) m) ∙ e
+
+  -- against the reference, under the chosen phase, every signal leaves at least B beside its red
+  pub leaves : (j : ℕ) → j < s .signals → maxBelow (s .signals) (b⁺ s) + 2 * s .red j ≤ u s (reference s) j (phase s (reference s) j) + halves s
+  unfolding b⁺
+  leaves j l =
+      let c = reference s in
+      let least = min-at (4 * s .cycle) (s .signals) (larger-raised s c) j l in
+      omega (arith, reference-first .best, phase-larger c j l, low s fit j l)
+
+  -- the reference against itself
+  pub phase-own : (c : ℕ) → c < s .signals → phase s c c ≡ 0
+  unfolding phase
+  phase-own c l =
+      let some : 0 < s .cycle = fit .turns in
+      let touches = u-is s c c 0 0 (omega arith) (record { p = 0; q = 0; eq = omega arith }) in
+      let range = u-range s c c (s .cycle) some in
+      let less : raised s c c (s .cycle) ≤ raised s c c 0 = omega arith in
+      ap (λ p. cond p 0 (s .cycle)) (phase-test c c l ∙ le-leb (raised s c c (s .cycle)) (raised s c c 0) less)
+
+  pub offset-own : (c : ℕ) → c < s .signals → offset s c c ≡ 0
+  offset-own c l = offset-is s c c 0 (omega (arith, fit .turns)) (record { p = 0; q = 0; eq = omega (arith, phase-own c l) })

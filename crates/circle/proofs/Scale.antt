@@ -1,0 +1,203 @@
+-- Scale: a street counted in N times finer units has every number of the method N times as large, and the same reference; and what passes in the coarse unit passes in the
+-- fine one. Each remainder is settled by uniqueness: N times a number in range is in range, and N times an equation of turns is one. Assumes nothing.
+use Prim.Native.Nat.{ℕ, zero, suc, _+_, _-_, _*_, _≤_, _<_, min, max}
+use mathlib.Core.Path.{_≡_, refl, sym, ap, ap₂, subst, _∙_}
+use native.Mathlib.Omega.{arith}
+use native.Mathlib.Decide.{decLe}
+use native.Mathlib.Nat.{mul-le-mul-left, mul-lt-mul-of-pos-left, mul-sub}
+use lib.IntN.{pos, subℕ, _-ℤ_}
+use Rattle.circle.specs.Man.{man}
+use Rattle.circle.specs.Method.{Timed, halves, u, pairWidth, b, B, reference, redStart}
+use Rattle.circle.specs.Bands.{Way, outboundWay, inboundWay}
+use Rattle.circle.proofs.Signed.{pos-minus}
+use Rattle.circle.proofs.Man.{Turns, man-lt, man-is, man-turns}
+use Rattle.circle.proofs.Over.{minBelow, maxBelow}
+use Rattle.circle.proofs.Method.{u-is, u-range}
+use Rattle.circle.proofs.Raised.{Fit, raised, larger-raised, b⁺, low, b-raised, B-raised, reference-is}
+use Rattle.circle.proofs.Arcs.{since, Passes}
+use Rattle.circle.proofs.Since.{along, Stops, Rising, since-turns, passes-at}
+use Rattle.circle.proofs.Reference.{reference-first, u-turns}
+
+-- turns in the finer unit
+turns-scaled : (N M a b : ℕ) → Turns M a b → Turns (N * M) (N * a) (N * b)
+turns-scaled N M a b c = record { p = c .p; q = c .q; eq = omega (arith, ap (λ (z : ℕ). N * z) (c .eq)) }
+
+pub man-scaled : (N M a b : ℕ) → 0 < N → 0 < M → man (N * M) (pos (N * a) -ℤ pos (N * b)) ≡ N * man M (pos a -ℤ pos b)
+man-scaled N M a b n h =
+    let z = man M (pos a -ℤ pos b) in
+    let c = turns-scaled N M (z + b) a (man-turns M a b h) in
+    man-is (N * M) (N * a) (N * b) (N * z) (mul-lt-mul-of-pos-left (man-lt M (pos a -ℤ pos b) h) n)
+    (record { p = c .p; q = c .q; eq = omega (arith, c .eq) })
+
+-- a street in N times finer units
+abbrev pub scaled : ℕ → Timed → Timed
+scaled N s =
+    record {
+      cycle = N * s .cycle;
+      signals = s .signals;
+      red = λ j. N * s .red j;
+      outbound = λ j. N * s .outbound j;
+      inbound = λ j. N * s .inbound j;
+    }
+
+min-scaled : (N a b : ℕ) → min (N * a) (N * b) ≡ N * min a b
+min-scaled N a b = go (decLe a b)
+  where
+    go : Dec (a ≤ b) → min (N * a) (N * b) ≡ N * min a b
+    go (yes l) = let e : min a b ≡ a = omega arith in omega (arith, ap (λ (z : ℕ). N * z) e, mul-le-mul-left N l)
+    go (no l) =
+        let m : b ≤ a = omega arith in
+        let e : min a b ≡ b = omega arith in
+        omega (arith, ap (λ (z : ℕ). N * z) e, mul-le-mul-left N m)
+
+max-scaled : (N a b : ℕ) → max (N * a) (N * b) ≡ N * max a b
+max-scaled N a b =
+    let e : max a b + min a b ≡ a + b = omega arith in
+    omega (arith, ap (λ (z : ℕ). N * z) e, min-scaled N a b)
+
+min-below-scaled : (N top n : ℕ) (f g : ℕ → ℕ) → ((k : ℕ) → k < n → f k ≡ N * g k) → minBelow (N * top) n f ≡ N * minBelow top n g
+unfolding minBelow
+min-below-scaled N top zero f g e = refl
+min-below-scaled N top (suc n) f g e =
+    ap₂ min (min-below-scaled N top n f g (λ k l. e k (omega arith))) (e n (omega arith))
+    ∙ min-scaled N (minBelow top n g) (g n)
+
+max-below-scaled : (N n : ℕ) (f g : ℕ → ℕ) → ((k : ℕ) → k < n → f k ≡ N * g k) → maxBelow n f ≡ N * maxBelow n g
+unfolding maxBelow
+max-below-scaled N zero f g e = omega arith
+max-below-scaled N (suc n) f g e =
+    ap₂ max (max-below-scaled N n f g (λ k l. e k (omega arith))) (e n (omega arith))
+    ∙ max-scaled N (maxBelow n g) (g n)
+
+module _ (N : ℕ) (s : Timed) (fine : 0 < N) (fit : Fit s) where
+  pub u-scaled : (i j e : ℕ) → u (scaled N s) i j (N * e) ≡ N * u s i j e
+  u-scaled i j e =
+      let some : 0 < s .cycle = fit .turns in
+      let around : 0 < 2 * s .cycle = omega arith in
+      let range = u-range s i j e some in
+      let z : ℕ = halves s - u s i j e in
+      let whole : z + u s i j e ≡ halves s = omega arith in
+      let less : z < halves s = omega arith in
+      let c = u-turns s i j e around in
+      let d = turns-scaled N (halves s) (z + (s .red j + s .outbound i + s .inbound i + e)) (s .red i + s .outbound j + s .inbound j) c in
+      let e′ : Turns (halves (scaled N s)) (N * z + (N * s .red j + N * s .outbound i + N * s .inbound i + N * e)) (N * s .red i + N * s .outbound j + N * s .inbound j) = record { p = d .p; q = d .q; eq = omega (arith, d .eq) } in
+      let same = u-is (scaled N s) i j (N * e) (N * z) (omega (arith, mul-lt-mul-of-pos-left less fine)) e′ in
+      omega (arith, same, ap (λ (y : ℕ). N * y) whole)
+
+  pub fit-scaled : Fit (scaled N s)
+  fit-scaled =
+      record {
+        some = fit .some;
+        turns = omega (arith, mul-le-mul-left N (fit .turns));
+        goes = λ k l. mul-lt-mul-of-pos-left (fit .goes k l) fine;
+      }
+
+  pub stops-scaled : Stops s → Stops (scaled N s)
+  stops-scaled stops j l = omega (arith, mul-lt-mul-of-pos-left (stops j l) fine)
+
+  pub rising-scaled : Rising s → Rising (scaled N s)
+  rising-scaled rising j l = mul-le-mul-left N (rising j l)
+
+  raised-scaled : (i j e : ℕ) → j < s .signals → raised (scaled N s) i j (N * e) ≡ N * raised s i j e
+  raised-scaled i j e l =
+      let room = low s fit j l in
+      let rest : halves s - 2 * s .red j + 2 * s .red j ≡ halves s = omega arith in
+      omega (arith, u-scaled i j e, ap (λ (y : ℕ). N * y) rest)
+
+  larger-scaled : (i j : ℕ) → j < s .signals → larger-raised (scaled N s) i j ≡ N * larger-raised s i j
+  larger-scaled i j l =
+      let none : 0 ≡ N * 0 = omega arith in
+      ap₂ max (ap (raised (scaled N s) i j) none ∙ raised-scaled i j 0 l) (raised-scaled i j (s .cycle) l)
+      ∙ max-scaled N (raised s i j 0) (raised s i j (s .cycle))
+
+  pub width-scaled : (i j e : ℕ) → pairWidth (scaled N s) i j (N * e) ≡ subℕ (N * u s i j e) (N * (2 * s .red j))
+  unfolding pairWidth
+  width-scaled i j e =
+      let red : 2 * (N * s .red j) ≡ N * (2 * s .red j) = omega arith in
+      pos-minus (u (scaled N s) i j (N * e)) (2 * (N * s .red j)) ∙ ap₂ subℕ (u-scaled i j e) red
+
+  -- b(i) and B, raised by the cycle in each unit
+  pub b⁺-scaled : (i : ℕ) → b⁺ (scaled N s) i ≡ N * b⁺ s i
+  unfolding b⁺
+  b⁺-scaled i =
+      let top : 4 * (N * s .cycle) ≡ N * (4 * s .cycle) = omega arith in
+      ap (λ (x : ℕ). minBelow x (s .signals) (larger-raised (scaled N s) i)) top
+      ∙ min-below-scaled N (4 * s .cycle) (s .signals) (larger-raised (scaled N s) i) (larger-raised s i) (larger-scaled i)
+
+  pub b-scaled : (i : ℕ) → b (scaled N s) i ≡ subℕ (N * b⁺ s i) (N * halves s)
+  b-scaled i =
+      let turn : halves (scaled N s) ≡ N * halves s = omega arith in
+      b-raised (scaled N s) fit-scaled i ∙ ap₂ subℕ (b⁺-scaled i) turn
+
+  pub greatest-scaled : maxBelow (s .signals) (b⁺ (scaled N s)) ≡ N * maxBelow (s .signals) (b⁺ s)
+  greatest-scaled = max-below-scaled N (s .signals) (b⁺ (scaled N s)) (b⁺ s) (λ k l. b⁺-scaled k)
+
+  pub B-scaled : B (scaled N s) ≡ subℕ (N * maxBelow (s .signals) (b⁺ s)) (N * halves s)
+  B-scaled =
+      let turn : halves (scaled N s) ≡ N * halves s = omega arith in
+      B-raised (scaled N s) fit-scaled ∙ ap₂ subℕ greatest-scaled turn
+
+  pub reference-scaled : reference (scaled N s) ≡ reference s
+  reference-scaled =
+      let c = reference s in
+      let m = reference-first s fit in
+      sym
+      (reference-is (scaled N s) fit-scaled c (m .below)
+      (b⁺-scaled c ∙ ap (λ (x : ℕ). N * x) (m .best) ∙ sym greatest-scaled)
+      (λ k l. omega (arith, b⁺-scaled k, greatest-scaled, mul-lt-mul-of-pos-left (m .before k l) fine)))
+
+-- a way in N times finer units
+pub record Finer (N : ℕ) (w z : Way) : Type 0 where
+  pub around : z .around ≡ N * w .around
+  pub signals : z .signals ≡ w .signals
+  pub start : (j : ℕ) → j < w .signals → z .start j ≡ N * w .start j
+  pub length : (j : ℕ) → j < w .signals → z .length j ≡ N * w .length j
+  pub lag : (j : ℕ) → j < w .signals → z .lag j ≡ N * w .lag j
+
+-- what passes in the coarse unit passes in the fine one
+pub finer-passes : (N : ℕ) (w z : Way) (x k : ℕ) → Finer N w z → Passes w x k → Passes z (N * x) (N * k)
+finer-passes N w z x k same passes =
+    record {
+      each =
+          λ j h r.
+          let l : j < w .signals = omega (arith, same .signals) in
+          let red : 0 < w .length j = some (w .length j) (omega (arith, same .length j l)) in
+          let room = passes .each j l red in
+          let g : ℕ = since w x j in
+          let c = turns-scaled N (w .around) (g + (w .start j + w .length j)) (x + w .lag j) (since-turns w x j (omega arith)) in
+          let e : Turns (N * w .around) (N * g + (z .start j + z .length j)) (N * x + z .lag j) = record { p = c .p; q = c .q; eq = omega (arith, c .eq, same .start j l, same .length j l, same .lag j l) } in
+          passes-at z (N * x) (N * k) j (N * g) r
+          (omega (arith, same .around, same .length j l, mul-le-mul-left N room))
+          (subst (λ M. Turns M (N * g + (z .start j + z .length j)) (N * x + z .lag j)) (sym (same .around)) e);
+    }
+  where
+    some : (m : ℕ) → 0 < N * m → 0 < m
+    some zero l = absurd (omega arith)
+    some (suc m) l = omega arith
+
+-- the ways of a street in finer units, its offsets too: under any lags that scale, so in both directions
+module _ (N : ℕ) (s : Timed) (f : ℕ → ℕ) (fine : 0 < N) (turns : 0 < s .cycle) where
+  start-scaled : (j : ℕ) → redStart (scaled N s) j (N * f j) ≡ N * redStart s j (f j)
+  unfolding redStart
+  start-scaled j =
+      let turn : 2 * (N * s .cycle) ≡ N * (2 * s .cycle) = omega arith in
+      ap (λ (M : ℕ). man M (pos (N * f j) -ℤ pos (N * s .red j))) turn
+      ∙ man-scaled N (2 * s .cycle) (f j) (s .red j) fine (omega arith)
+
+  street-finer : (lag lag′ : ℕ → ℕ) → ((j : ℕ) → lag′ j ≡ N * lag j) → Finer N (along (outboundWay s f) lag) (along (outboundWay (scaled N s) (λ j. N * f j)) lag′)
+  street-finer lag lag′ e =
+      record {
+        around = omega arith;
+        signals = refl;
+        start = λ j l. start-scaled j;
+        length = λ j l. omega arith;
+        lag = λ j l. e j;
+      }
+
+  pub outbound-finer : Finer N (outboundWay s f) (outboundWay (scaled N s) (λ j. N * f j))
+  outbound-finer = street-finer (outboundWay s f .lag) (outboundWay (scaled N s) f .lag) (λ j. omega arith)
+
+  pub inbound-finer : Finer N (inboundWay s f) (inboundWay (scaled N s) (λ j. N * f j))
+  inbound-finer =
+      street-finer (inboundWay s f .lag) (inboundWay (scaled N s) f .lag)
+      (λ j. omega (arith, mul-sub N (s .inbound (s .signals - 1)) (s .inbound j)))

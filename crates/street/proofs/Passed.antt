@@ -1,0 +1,144 @@
+-- What is known of a street's numbers once every check of a plan has passed, in the words of plain numbers. Each check that passed tested true, or searched for
+-- a fault and found none. Assumes nothing.
+use Prim.Native.Nat.{ℕ, suc, _+_, _-_, _*_, _≤_, _<_}
+use mathlib.Core.Path.{_≡_, refl, sym, ap, ap₂, _∙_}
+use mathlib.Core.Bool.{Bool, true, false, cond, not}
+use mathlib.Core.List.{List, [], _∷_}
+use native.Mathlib.Omega.{arith}
+use lib.ListN.{length, getD}
+use lib.Dec.{leb, ltb}
+use borrow.Author.Tests.{ltb-false, leb-false, lt-ltb, leb-true, not-false}
+use Rattle.circle.specs.Over.{Found, nowhere, at, firstBelow}
+use Rattle.circle.proofs.Over.{first-none}
+use Rattle.street.specs.Limits.{minSignals, maxSignals, minCycle, maxCycle, minRed, maxDistance, minSpeed, maxSpeed}
+use Rattle.street.specs.Lists.{Lists, signals}
+use Rattle.street.specs.Checks.{within, unless, faultAt, orNext, firstFault, _or_, badRed, badDistance, badSpeed, countCheck, roomCheck, cycleCheck, redCheck, distanceCheck, speedCheck, planChecks}
+use Rattle.street.specs.Times.{Driveable}
+use Rattle.street.specs.declared.Code.{Code}
+use Rattle.street.specs.declared.Code.the-variants.{Room, Red, Distance, Speed}
+use Rattle.street.specs.declared.Verdict.{Verdict}
+use Rattle.street.specs.declared.Verdict.the-variants.{Passed, Refused}
+use Rattle.street.proofs.CheckLaws.{passes, Within, within-range, Counted, counted, cycle-range}
+
+first-passed : (v w : Verdict) → orNext v w ≡ Passed → v ≡ Passed
+first-passed Passed w e = refl
+first-passed (Refused f) w e = e
+
+rest-passed : (v w : Verdict) → orNext v w ≡ Passed → w ≡ Passed
+rest-passed Passed w e = e
+rest-passed (Refused f) w e = let z : _≡_ {A = ℕ} 0 1 = cc in absurd (omega arith)
+
+no-fault : (code : Code) (f : Found) → faultAt code f ≡ Passed → f ≡ nowhere
+no-fault code nowhere e = refl
+no-fault code (at i) e = let z : _≡_ {A = ℕ} 0 1 = cc in absurd (omega arith)
+
+or-left : (p q : Bool) → (p or q) ≡ false → p ≡ false
+or-left true q e = e
+or-left false q e = refl
+
+or-right : (p q : Bool) → (p or q) ≡ false → q ≡ false
+or-right true q e = let z : _≡_ {A = ℕ} 0 1 = cc in absurd (omega arith)
+or-right false q e = e
+
+-- distances that passed rise, and are near enough
+pub distances-rise : (ds : List ℕ) → distanceCheck ds ≡ Passed → (k : ℕ) → k + 1 < length ds → getD ds k 0 < getD ds (k + 1) 0
+unfolding distanceCheck
+distances-rise ds e k l =
+    let none = first-none (length ds) (badDistance ds) (no-fault Distance (firstBelow (length ds) (badDistance ds)) e) (k + 1) l in
+    let above = or-right (ltb maxDistance (getD ds (k + 1) 0)) _ none in
+    let later : 0 < k + 1 = omega arith in
+    let same : k + 1 - 1 ≡ k = omega arith in
+    let open-test : cond (ltb 0 (k + 1)) (leb (getD ds (k + 1) 0) (getD ds (k + 1 - 1) 0)) false ≡ leb (getD ds (k + 1) 0) (getD ds k 0) =
+    ap₂ (λ t (j : ℕ). cond t (leb (getD ds (k + 1) 0) (getD ds j 0)) false) (lt-ltb 0 (k + 1) later) same in
+    leb-false _ _ (sym open-test ∙ above)
+
+pub distances-near : (ds : List ℕ) → distanceCheck ds ≡ Passed → (k : ℕ) → k < length ds → getD ds k 0 ≤ maxDistance
+unfolding distanceCheck
+distances-near ds e k l =
+    let none = first-none (length ds) (badDistance ds) (no-fault Distance (firstBelow (length ds) (badDistance ds)) e) k l in
+    ltb-false _ _ (or-left (ltb maxDistance (getD ds k 0)) _ none)
+
+pub record Speeds (out back : ℕ) : Type 0 where
+  pub outbound : Within minSpeed maxSpeed out
+  pub inbound : Within minSpeed maxSpeed back
+
+pub speeds-within : (outs ins : List ℕ) → speedCheck outs ins ≡ Passed → (k : ℕ) → k < length outs → Speeds (getD outs k 0) (getD ins k 0)
+unfolding speedCheck
+speeds-within outs ins e k l =
+    let none = first-none (length outs) (badSpeed outs ins) (no-fault Speed (firstBelow (length outs) (badSpeed outs ins)) e) k l in
+    let out = or-left (not (within minSpeed maxSpeed (getD outs k 0))) _ none in
+    let back = or-right (not (within minSpeed maxSpeed (getD outs k 0))) _ none in
+    record {
+      outbound = within-range minSpeed maxSpeed (getD outs k 0) (not-false _ out);
+      inbound = within-range minSpeed maxSpeed (getD ins k 0) (not-false _ back);
+    }
+
+pub reds-within : (cycle : ℕ) (reds : List ℕ) → redCheck cycle reds ≡ Passed → (k : ℕ) → k < length reds → Within minRed (cycle - 1) (getD reds k 0)
+unfolding redCheck
+reds-within cycle reds e k l =
+    let none = first-none (length reds) (badRed cycle reds) (no-fault Red (firstBelow (length reds) (badRed cycle reds)) e) k l in
+    within-range minRed (cycle - 1) (getD reds k 0) (not-false _ none)
+
+-- all of it
+pub record Clear (l : Lists) (room : ℕ) : Type 0 where
+  pub counts : Counted (signals l) (length (l .distances)) (length (l .outbound)) (length (l .inbound))
+  pub roomy : signals l ≤ room
+  pub cycle : Within minCycle maxCycle (l .cycle)
+  pub reds : (k : ℕ) → k < signals l → Within minRed (l .cycle - 1) (getD (l .reds) k 0)
+  pub outbound : Driveable (l .distances) (l .outbound)
+  pub inbound : Driveable (l .distances) (l .inbound)
+
+record AllPassed (l : Lists) (room : ℕ) : Type 0 where
+  counts : countCheck (signals l) (length (l .distances)) (length (l .outbound)) (length (l .inbound)) ≡ Passed
+  roomy : roomCheck (signals l) room ≡ Passed
+  cycle : cycleCheck (l .cycle) ≡ Passed
+  reds : redCheck (l .cycle) (l .reds) ≡ Passed
+  distances : distanceCheck (l .distances) ≡ Passed
+  speeds : speedCheck (l .outbound) (l .inbound) ≡ Passed
+
+all-passed : (l : Lists) (room : ℕ) → planChecks l room ≡ Passed → AllPassed l room
+unfolding planChecks
+all-passed l room e =
+    let count = countCheck (signals l) (length (l .distances)) (length (l .outbound)) (length (l .inbound)) in
+    let e1 = rest-passed count _ e in
+    let e2 = rest-passed (roomCheck (signals l) room) _ e1 in
+    let e3 = rest-passed (cycleCheck (l .cycle)) _ e2 in
+    let e4 = rest-passed (redCheck (l .cycle) (l .reds)) _ e3 in
+    let e5 = rest-passed (distanceCheck (l .distances)) _ e4 in
+    record {
+      counts = first-passed count _ e;
+      roomy = first-passed (roomCheck (signals l) room) _ e1;
+      cycle = first-passed (cycleCheck (l .cycle)) _ e2;
+      reds = first-passed (redCheck (l .cycle) (l .reds)) _ e3;
+      distances = first-passed (distanceCheck (l .distances)) _ e4;
+      speeds = first-passed (speedCheck (l .outbound) (l .inbound)) Passed e5;
+    }
+
+-- one direction, from the facts that both share
+driveable : (ds vs : List ℕ) → length ds ≡ length vs + 1 → length ds ≤ maxSignals → distanceCheck ds ≡ Passed → ((k : ℕ) → k < length vs → Within minSpeed maxSpeed (getD vs k 0)) → Driveable ds vs
+driveable ds vs ends few placed speeds =
+    record {
+      ends = ends;
+      few = few;
+      rising = λ k h. omega (arith, distances-rise ds placed k (omega arith));
+      near = λ k h. distances-near ds placed (k + 1) (omega arith);
+      slow = λ k h. speeds k h .low;
+      fast = λ k h. speeds k h .high;
+    }
+
+pub clear : (l : Lists) (room : ℕ) → planChecks l room ≡ Passed → Clear l room
+unfolding roomCheck
+clear l room e =
+    let passed = all-passed l room e in
+    let counts = counted (signals l) (length (l .distances)) (length (l .outbound)) (length (l .inbound)) (passed .counts) in
+    let speeds = speeds-within (l .outbound) (l .inbound) (passed .speeds) in
+    let few : length (l .distances) ≤ maxSignals = omega arith in
+    record {
+      counts = counts;
+      roomy = leb-true (signals l) room (passes (leb (signals l) room) Room (passed .roomy));
+      cycle = cycle-range (l .cycle) (passed .cycle);
+      reds = reds-within (l .cycle) (l .reds) (passed .reds);
+      outbound = driveable (l .distances) (l .outbound) (omega arith) few (passed .distances) (λ k h. speeds k h .outbound);
+      inbound =
+          driveable (l .distances) (l .inbound) (omega arith) few (passed .distances) (λ k h. speeds k (omega arith) .inbound);
+    }

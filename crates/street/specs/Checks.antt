@@ -1,0 +1,101 @@
+-- Each check of a street, and the refusal of a list of checks: its first fault (01, 'Codes, in order of checking').
+use Prim.Native.Nat.{ℕ, _+_, _-_}
+use mathlib.Core.Bool.{Bool, true, false, cond, not}
+use mathlib.Core.List.{List, [], _∷_}
+use lib.ListN.{length, getD}
+use lib.Dec.{leb, ltb, eqb}
+use Rattle.circle.specs.Over.{Found, nowhere, at, firstBelow}
+use Rattle.street.specs.Limits.{minSignals, maxSignals, minCycle, maxCycle, minRed, maxDistance, minSpeed, maxSpeed}
+use Rattle.street.specs.Lists.{Lists, signals}
+use Rattle.street.specs.declared.Code.{Code}
+use Rattle.street.specs.declared.Code.the-variants.{Count, Room, Cycle, Red, Distance, Speed}
+use Rattle.street.specs.declared.Verdict.{Verdict}
+use Rattle.street.specs.declared.Verdict.the-variants.{Passed, Refused}
+
+-- a refusal with its code and place
+abbrev pub refuse : Code → ℕ → Verdict
+refuse code place = Refused (record { code = code; place = place })
+
+-- a check that has no place of its own: it passes, or refuses at place 0
+abbrev pub unless : Bool → Code → Verdict
+unless ok code = cond ok Passed (refuse code 0)
+
+-- a check of a list: it refuses at the first faulty entry, counted from 1
+abbrev pub faultAt : Code → Found → Verdict
+faultAt code nowhere = Passed
+faultAt code (at i) = refuse code (i + 1)
+
+-- a call's refusal is the first fault in its list of checks
+abbrev pub orNext : Verdict → Verdict → Verdict
+orNext Passed next = next
+orNext (Refused f) next = Refused f
+
+abbrev pub firstFault : List Verdict → Verdict
+firstFault [] = Passed
+firstFault (v ∷ vs) = orNext v (firstFault vs)
+
+abbrev pub _and_ : Bool → Bool → Bool
+p and q = cond p q false
+
+abbrev pub _or_ : Bool → Bool → Bool
+p or q = cond p true q
+
+-- whether a number lies from one bound to another, both included
+abbrev pub within : ℕ → ℕ → ℕ → Bool
+within low high x = leb low x and leb x high
+
+infixr 5 _and_
+infixr 4 _or_
+-- 2 COUNT: from the lists' lengths, 1 to 32 signals, a distance for each, and two speeds for each link between neighbours
+unfoldable pub countCheck : ℕ → ℕ → ℕ → ℕ → Verdict
+countCheck n distances outbound inbound =
+    unless (within minSignals maxSignals n and eqb distances n and eqb outbound (n - 1) and eqb inbound (n - 1)) Count
+
+-- 3 ROOM: the lent offset list has an entry for each signal
+unfoldable pub roomCheck : ℕ → ℕ → Verdict
+roomCheck n room = unless (leb n room) Room
+
+-- 4 CYCLE
+unfoldable pub cycleCheck : ℕ → Verdict
+cycleCheck cycle = unless (within minCycle maxCycle cycle) Cycle
+
+-- whether the red at an index is out of its range, 1 to one less than the cycle
+abbrev pub badRed : ℕ → List ℕ → ℕ → Bool
+badRed cycle reds j = not (within minRed (cycle - 1) (getD reds j 0))
+
+-- 5 RED
+unfoldable pub redCheck : ℕ → List ℕ → Verdict
+redCheck cycle reds = faultAt Red (firstBelow (length reds) (badRed cycle reds))
+
+-- whether the distance at an index is not above the one before it; the first has none before it
+abbrev pub notAbove : List ℕ → ℕ → Bool
+notAbove distances j = ltb 0 j and leb (getD distances j 0) (getD distances (j - 1) 0)
+
+-- whether the distance at an index is too large or not above the one before
+abbrev pub badDistance : List ℕ → ℕ → Bool
+badDistance distances j = ltb maxDistance (getD distances j 0) or notAbove distances j
+
+-- 6 DISTANCE
+unfoldable pub distanceCheck : List ℕ → Verdict
+distanceCheck distances = faultAt Distance (firstBelow (length distances) (badDistance distances))
+
+-- whether either speed of a link is out of range
+abbrev pub badSpeed : List ℕ → List ℕ → ℕ → Bool
+badSpeed outbound inbound k =
+    not (within minSpeed maxSpeed (getD outbound k 0)) or not (within minSpeed maxSpeed (getD inbound k 0))
+
+-- 7 SPEED
+unfoldable pub speedCheck : List ℕ → List ℕ → Verdict
+speedCheck outbound inbound = faultAt Speed (firstBelow (length outbound) (badSpeed outbound inbound))
+
+-- the checks of a plan over a lent list of some room, in their order: all reds are judged before any distance
+unfoldable pub planChecks : Lists → ℕ → Verdict
+planChecks l room =
+    firstFault
+    (countCheck (signals l) (length (l .distances)) (length (l .outbound)) (length (l .inbound))
+    ∷ roomCheck (signals l) room
+    ∷ cycleCheck (l .cycle)
+    ∷ redCheck (l .cycle) (l .reds)
+    ∷ distanceCheck (l .distances)
+    ∷ speedCheck (l .outbound) (l .inbound)
+    ∷ [])

@@ -1,0 +1,35 @@
+-- The limits of a street (01, 'Units and the street'). The code's associated constants are proved equal to these.
+use Prim.Native.Nat.{ℕ}
+
+-- signals on a street
+abbrev pub minSignals : ℕ
+minSignals = 1
+
+abbrev pub maxSignals : ℕ
+maxSignals = 32
+
+-- the cycle, in ticks
+abbrev pub minCycle : ℕ
+minCycle = 10
+
+abbrev pub maxCycle : ℕ
+maxCycle = 6000
+
+-- a red, in ticks; it is also below the cycle
+abbrev pub minRed : ℕ
+minRed = 1
+
+-- a distance from the origin, in mm; the least is 0
+abbrev pub maxDistance : ℕ
+maxDistance = 20000000
+
+-- a speed on a link, in mm/s
+abbrev pub minSpeed : ℕ
+minSpeed = 1000
+
+abbrev pub maxSpeed : ℕ
+maxSpeed = 40000
+
+-- a platoon, in halves; the least is 0
+abbrev pub maxPlatoon : ℕ
+maxPlatoon = 100000

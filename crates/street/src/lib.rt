@@ -1,0 +1,156 @@
+// The street: its limits, its refusal codes, each check, travel times and how many links were rounded (01, 'Units and the
+// street' and 'Codes, in order of checking').
+mod checks;
+mod times;
+
+ghost use mathlib.Core.Path.{_≡_};
+ghost use Prim.Native.Nat.{_≤_};
+ghost use lib.ListN.{length};
+ghost use Rattle.street.specs.Limits.{minSignals, maxSignals, minCycle, maxCycle, minRed, maxDistance, minSpeed, maxSpeed, maxPlatoon};
+ghost use Rattle.street.specs.Lists.{typed};
+ghost use Rattle.street.specs.Checks.{planChecks};
+ghost use Rattle.street.specs.Streets.{surveyed, streetOf, noStreet};
+
+// The refusals of document 01, in the order of its table; specs/Codes.antt gives each its number.
+pub enum Code {
+    Sheet,
+    Count,
+    Room,
+    Cycle,
+    Red,
+    Distance,
+    Speed,
+    Platoon,
+    Width,
+    Offset,
+}
+
+// A numbered refusal: what was wrong, and at which signal or link, counted from 1; 0 where the code has no place.
+pub struct Refusal {
+    pub code: Code,
+    pub place: u32,
+}
+
+// What a check comes to.
+pub enum Verdict {
+    Passed,
+    Refused(Refusal),
+}
+
+// A street whose checks have all passed, as the search needs it: how many signals, the cycle in ticks, each signal's red in
+// ticks, for each signal the outbound ticks from signal 1 to it and the inbound ticks from it to signal 1, and the number of
+// links with a rounded time. Entries from `signals` on are 0.
+pub struct Street {
+    pub signals: usize,
+    pub cycle: u32,
+    pub reds: [u32; 32],
+    pub outbound: [u32; 32],
+    pub inbound: [u32; 32],
+    pub rounded: u32,
+}
+
+// What the constructor answers: the verdict, and the street beside it, all 0 where the verdict is a refusal.
+pub struct Surveyed {
+    pub verdict: Verdict,
+    pub street: Street,
+}
+
+impl Street {
+    // Document 01's limits, written once. The largest red is the cycle less 1.
+    pub const MIN_SIGNALS: usize = 1;
+
+    pub const MAX_SIGNALS: usize = 32;
+
+    pub const MIN_CYCLE: u32 = 10;
+
+    pub const MAX_CYCLE: u32 = 6_000;
+
+    pub const MIN_RED: u32 = 1;
+
+    pub const MAX_DISTANCE: u32 = 20_000_000;
+
+    pub const MIN_SPEED: u32 = 1_000;
+
+    pub const MAX_SPEED: u32 = 40_000;
+
+    pub const MAX_PLATOON: u32 = 100_000;
+
+    // The street that stands beside a refusal: every number 0.
+    fn none() -> Street
+        ensures { λ r. ⌜ r ≡ noStreet ⌝ }
+    {
+        Street {
+            signals: 0,
+            cycle: 0,
+            reds: [0u32; 32],
+            outbound: [0u32; 32],
+            inbound: [0u32; 32],
+            rounded: 0,
+        }
+    }
+
+    // The street of lists that pass every check.
+    fn built(
+        cycle: u32,
+        reds: &[u32],
+        distances: &[u32],
+        outbound: &[u32],
+        inbound: &[u32],
+        lent: usize,
+    ) -> Street
+        requires { ⌜ planChecks (typed cycle (now reds) (now distances) (now outbound) (now inbound)) lent ≡ Verdict.Passed ⌝ }
+        ensures { λ r. ⌜ r ≡ streetOf (typed cycle (now (reds .entry)) (now (distances .entry)) (now (outbound .entry)) (now (inbound .entry))) ⌝ }
+    {
+        Street {
+            signals: reds.len(),
+            cycle,
+            reds: times::copied(reds),
+            outbound: times::sums(distances, outbound),
+            inbound: times::sums(distances, inbound),
+            rounded: times::rounded_links(distances, outbound, inbound),
+        }
+    }
+
+    // The constructor: every check of a plan over a lent list of `lent` entries, in document 01's order, and then the street.
+    pub fn new(
+        cycle: u32,
+        reds: &[u32],
+        distances: &[u32],
+        outbound: &[u32],
+        inbound: &[u32],
+        lent: usize,
+    ) -> Surveyed
+        ensures { λ r. ⌜ r ≡ surveyed (typed cycle (now (reds .entry)) (now (distances .entry)) (now (outbound .entry)) (now (inbound .entry))) lent ⌝ }
+    {
+        let verdict = checks::judged(cycle, reds, distances, outbound, inbound, lent);
+        match verdict {
+            Verdict::Refused(f) => Surveyed {
+                verdict: Verdict::Refused(f),
+                street: Street::none(),
+            },
+            Verdict::Passed => Surveyed {
+                verdict: Verdict::Passed,
+                street: Street::built(cycle, reds, distances, outbound, inbound, lent),
+            },
+        }
+    }
+}
+
+// The limits of the code are those of the definitions. The body is empty: the contract is all there is to this.
+fn limits()
+    ensures signals { λ _. do
+      least ← ⟦Street::MIN_SIGNALS⟧ .entry
+      most ← ⟦Street::MAX_SIGNALS⟧ .entry
+      ⌜ (least ≡ minSignals) × (most ≡ maxSignals) ⌝ }
+    ensures ticks { λ _. do
+      least ← ⟦Street::MIN_CYCLE⟧ .entry
+      most ← ⟦Street::MAX_CYCLE⟧ .entry
+      red ← ⟦Street::MIN_RED⟧ .entry
+      ⌜ (least ≡ minCycle) × (most ≡ maxCycle) × (red ≡ minRed) ⌝ }
+    ensures roads { λ _. do
+      far ← ⟦Street::MAX_DISTANCE⟧ .entry
+      slow ← ⟦Street::MIN_SPEED⟧ .entry
+      fast ← ⟦Street::MAX_SPEED⟧ .entry
+      long ← ⟦Street::MAX_PLATOON⟧ .entry
+      ⌜ (far ≡ maxDistance) × (slow ≡ minSpeed) × (fast ≡ maxSpeed) × (long ≡ maxPlatoon) ⌝ }
+{}
