@@ -1,0 +1,46 @@
+-- `main` meets its contract: the printed text lies within its buffer. Assumes nothing beyond what the libraries assume of reading and writing.
+use borrow.Author.Needs.{needs}
+use Rattle.printed.proofs.Ways.{text-within, text-count}
+use Rattle.plan.proofs.main.Statement.{statement}
+use Rattle.plan.proofs.main.Tie as tie
+
+slice-aggregate-read-full : tie.Need-slice-aggregate-read-full
+slice-aggregate-read-full c = search needs
+
+read-full-requires : tie.Need-read-full-requires
+read-full-requires c κs = search needs
+
+array-share-prefix-input : tie.Need-array-share-prefix-input
+array-share-prefix-input c = search needs
+
+slice-aggregate-equal-text : tie.Need-slice-aggregate-equal-text
+slice-aggregate-equal-text c = search needs
+
+equal-text-requires : tie.Need-equal-text-requires
+equal-text-requires c κs = search needs
+
+array-share-prefix-bytes : tie.Need-array-share-prefix-bytes
+array-share-prefix-bytes c = text-within (c .before .equal-text .ensures)
+
+slice-aggregate-write-all : tie.Need-slice-aggregate-write-all
+slice-aggregate-write-all c = text-count (c .before .before .equal-text .ensures)
+
+write-all-requires : tie.Need-write-all-requires
+write-all-requires c κs = search needs
+
+returns : tie.Need-returns
+returns c = search needs
+
+pub main-spec : {M : Type 1} → statement M
+main-spec =
+    tie.close
+    (tie.spec
+    slice-aggregate-read-full
+    read-full-requires
+    array-share-prefix-input
+    slice-aggregate-equal-text
+    equal-text-requires
+    array-share-prefix-bytes
+    slice-aggregate-write-all
+    write-all-requires
+    returns)

@@ -1,0 +1,96 @@
+-- The search in naturals: a row's least is its candidate's b(i) raised, and who leads after all candidates is the reference, with B. Assumes nothing.
+use Prim.Native.Nat.{ℕ, _+_, _*_, _≤_, _<_}
+use mathlib.Core.Path.{_≡_, refl, sym, ap, ap₂, _∙_, subst}
+use mathlib.Core.List.{List, []}
+use native.Mathlib.Omega.{arith}
+use lib.IntN.{ℤ, pos, subℕ, _-ℤ_}
+use lib.ListN.{length, getD, set}
+use borrow.Author.Count.{below-more}
+use lib.Seq.{getD-set-same, getD-set-other}
+use Rattle.circle.specs.Signed.{maxℤ}
+use Rattle.circle.specs.Over.{leastBelow}
+use Rattle.circle.specs.Method.{Timed, halves, B}
+use Rattle.circle.proofs.Signed.{pos-minus, pos-sub, max-sub, sub-injective}
+use Rattle.circle.proofs.Over.{minBelow, maxBelow, max-more, max-ge, least-raised}
+use Rattle.circle.proofs.Method.{raised-width}
+use Rattle.circle.proofs.Raised.{Fit, raised, larger-raised, b⁺, b⁺-le, low, top, B-raised, reference-is}
+use Rattle.street.specs.Streets.{timedStreet, Sound}
+use Rattle.street.specs.declared.Street.{Street}
+use Rattle.plans.specs.Search.{lowered, Pair, Row, wider, Searched}
+
+lowered-injective : (s : Timed) (x y : ℕ) → lowered s x ≡ subℕ y (halves s) → x ≡ y
+lowered-injective s x y e = sub-injective x y (halves s) (sym (pos-minus x (halves s)) ∙ e)
+
+module _ (s : Timed) (fit : Fit s) where
+  -- a row's least is its candidate's b(i)
+  pub least-is : (i : ℕ) (row : List (List ℕ)) (r : ℕ) → Row s i row → pos r ≡ leastBelow (s .signals) (wider row) → r ≡ b⁺ s i
+  unfolding b⁺
+  least-is i row r ok e =
+      sub-injective r (minBelow (4 * s .cycle) (s .signals) (larger-raised s i)) 0
+      (sym (pos-sub r)
+      ∙ e
+      ∙ least-raised 0 (4 * s .cycle) (s .signals) (wider row) (larger-raised s i) (fit .some) (top s fit i)
+      (λ j l.
+      ap₂ (λ (x y : ℕ). maxℤ (pos x) (pos y))
+      (lowered-injective s _ _ (ok .each j l .even ∙ raised-width s i j 0 (low s fit j l)))
+      (lowered-injective s _ _ (ok .each j l .odd ∙ raised-width s i j (s .cycle) (low s fit j l)))
+      ∙ ap₂ maxℤ (pos-sub (raised s i j 0)) (pos-sub (raised s i j (s .cycle)))
+      ∙ max-sub (raised s i j 0) (raised s i j (s .cycle)) 0))
+
+  pub B-is : (r : ℕ) → r ≡ maxBelow (s .signals) (b⁺ s) → lowered s r ≡ B s
+  B-is r e = pos-minus r (halves s) ∙ ap (λ (x : ℕ). subℕ x (halves s)) e ∙ sym (B-raised s fit)
+
+-- after k candidates: the first of them with the greatest number, and that number
+pub record Leading (g : ℕ → ℕ) (k signal most : ℕ) : Type 0 where
+  pub among : signal < k
+  pub greatest : most ≡ maxBelow k g
+  pub attains : g signal ≡ most
+  pub before : (q : ℕ) → q < signal → g q < most
+
+pub leads-first : (g : ℕ → ℕ) (x : ℕ) → x ≡ g 0 → Leading g 1 0 x
+unfolding maxBelow
+leads-first g x e =
+    record { among = omega arith; greatest = omega arith; attains = sym e; before = λ q l. absurd (omega arith) }
+
+-- a greater one takes the lead
+pub leads-new : (g : ℕ → ℕ) (k signal most x : ℕ) → Leading g k signal most → most < x → x ≡ g k → Leading g (k + 1) k x
+leads-new g k signal most x lead l e =
+    record {
+      among = omega arith;
+      greatest = let more = max-more k g in omega (arith, lead .greatest);
+      attains = sym e;
+      before = λ q m. let below = max-ge k g q m in omega (arith, lead .greatest);
+    }
+
+-- and one that is not leaves it
+pub leads-still : (g : ℕ → ℕ) (k signal most x : ℕ) → Leading g k signal most → x ≤ most → x ≡ g k → Leading g (k + 1) signal most
+leads-still g k signal most x lead l e =
+    record {
+      among = let m = lead .among in omega arith;
+      greatest = let more = max-more k g in omega (arith, lead .greatest);
+      attains = lead .attains;
+      before = lead .before;
+    }
+
+-- one more row of the table of widths
+pub rows-more : (s : Timed) (widths : List (List (List ℕ))) (i : ℕ) (row : List (List ℕ)) → i < 32 → length widths ≡ 32 → ((q : ℕ) → q < i → Row s q (getD widths q [])) → Row s i row → (q : ℕ) → q < i + 1 → Row s q (getD (set widths i row) q [])
+rows-more s widths i row l size before here q m =
+    let here′ = subst (Row s i) (sym (getD-set-same widths i row [] (omega arith))) here in
+    below-more (λ k. Row s k (getD (set widths i row) k [])) i
+    (λ k o. subst (Row s k) (sym (getD-set-other widths i k row [] (λ same. omega arith))) (before k o))
+    here′ q m
+
+pub fit-sound : (s : Street) → Sound s → Fit (timedStreet s)
+fit-sound s ok = record { some = ok .some; turns = omega (arith, ok .shortest); goes = ok .goes }
+
+-- who leads after all candidates is the reference, with B
+pub settled : (s : Timed) → Fit s → (k signal most : ℕ) → k ≡ s .signals → Leading (b⁺ s) k signal most → Searched s (record { signal = signal; raised = most })
+settled s fit k signal most all lead =
+    let greatest : most ≡ maxBelow (s .signals) (b⁺ s) = lead .greatest ∙ ap (λ (n : ℕ). maxBelow n (b⁺ s)) all in
+    record {
+      found =
+          reference-is s fit signal (omega (arith, lead .among)) (lead .attains ∙ greatest)
+          (λ q l. omega (arith, lead .before q l, greatest));
+      width = B-is s fit most greatest;
+      small = omega (arith, b⁺-le s signal, lead .attains);
+    }

@@ -1,0 +1,98 @@
+-- `plans::search::least` meets its contract. The loop's invariant: `low` is the least over the limits before `j`, of which there is one at least. Assumes nothing.
+use Prim.Native.Nat.{ℕ, _-_, _≤_}
+use mathlib.Core.Path.{ap₂, _≡_, sym, ap, _∙_}
+use native.Mathlib.Omega.{arith}
+use lib.IntN.{pos}
+use borrow.Author.Needs.{needs}
+use Rattle.circle.specs.Over.{leastBelow}
+use Rattle.circle.specs.Signed.{minℤ}
+use Rattle.circle.proofs.Over.{least-more}
+use Rattle.plans.specs.Search.{wider}
+use Rattle.plans.proofs.search.least.Statement.{statement}
+use Rattle.plans.proofs.search.least.Tie as tie
+
+abbrev Inv-loop : tie.InvT-loop
+Inv-loop pairs n low₀ j₀ low j = (1 ≤ j) × (j ≤ n) × (pos low ≡ leastBelow j (wider pairs))
+
+abbrev μ-loop : tie.MeasureT-loop
+μ-loop pairs n low₀ j₀ low j = n - j
+
+index-1-larger : tie.Need-index-1-larger Inv-loop μ-loop
+index-1-larger c = search needs
+
+index-2-larger : tie.Need-index-2-larger Inv-loop μ-loop
+index-2-larger c = search needs
+
+index-1-larger-2 : tie.Need-index-1-larger-2 Inv-loop μ-loop
+index-1-larger-2 c = search needs
+
+index-2-larger-2 : tie.Need-index-2-larger-2 Inv-loop μ-loop
+index-2-larger-2 c = search needs
+
+larger-requires : tie.Need-larger-requires Inv-loop μ-loop
+larger-requires c κs = search needs
+
+loop-holds : tie.Need-loop-holds Inv-loop μ-loop
+unfolding leastBelow
+loop-holds c = (search needs, search needs, c .larger .ensures)
+
+mul-larger : tie.Need-mul-larger Inv-loop μ-loop
+mul-larger c = search needs
+
+index-1-larger-3 : tie.Need-index-1-larger-3 Inv-loop μ-loop
+index-1-larger-3 c = search needs
+
+index-2-larger-3 : tie.Need-index-2-larger-3 Inv-loop μ-loop
+index-2-larger-3 c = search needs
+
+mul-larger-2 : tie.Need-mul-larger-2 Inv-loop μ-loop
+mul-larger-2 c = search needs
+
+index-1-larger-4 : tie.Need-index-1-larger-4 Inv-loop μ-loop
+index-1-larger-4 c = search needs
+
+index-2-larger-4 : tie.Need-index-2-larger-4 Inv-loop μ-loop
+index-2-larger-4 c = search needs
+
+larger-requires-2 : tie.Need-larger-requires-2 Inv-loop μ-loop
+larger-requires-2 c κs = search needs
+
+smaller-requires : tie.Need-smaller-requires Inv-loop μ-loop
+smaller-requires c κs = search needs
+
+add-j : tie.Need-add-j Inv-loop μ-loop
+add-j c = search needs
+
+loop-less : tie.Need-loop-less Inv-loop μ-loop
+loop-less c = search needs
+
+loop-again : tie.Need-loop-again Inv-loop μ-loop
+loop-again c = (omega arith, omega arith, c .smaller .ensures ∙ ap₂ minℤ (c .before .before .before .before .before .loop .inv .2) (c .before .larger2 .ensures) ∙ sym (least-more (c .before .before .before .before .before .loop .j) (wider (c .before .before .before .before .before .before .before .before .before .args .pairs .now)) (c .before .before .before .before .before .loop .inv .0)))
+
+returns : tie.Need-returns Inv-loop μ-loop
+returns c = let e : c .before .loop .j ≡ c .before .before .before .before .before .args .n = omega arith in c .before .loop .inv .2 ∙ ap (λ (k : ℕ). leastBelow k (wider (c .before .before .before .before .before .args .pairs .now))) e
+
+pub least-spec : {M : Type 1} → statement M
+least-spec =
+    tie.close
+    (tie.spec
+    Inv-loop
+    μ-loop
+    index-1-larger
+    index-2-larger
+    index-1-larger-2
+    index-2-larger-2
+    larger-requires
+    loop-holds
+    mul-larger
+    index-1-larger-3
+    index-2-larger-3
+    mul-larger-2
+    index-1-larger-4
+    index-2-larger-4
+    larger-requires-2
+    smaller-requires
+    add-j
+    loop-less
+    loop-again
+    returns)

@@ -1,0 +1,91 @@
+-- `plans::search::reduced` meets its contract. The loop's invariant: the array holds the places of the signals before `k` and zeros behind them. Assumes nothing.
+use Prim.Native.Nat.{_-_, _≤_}
+use mathlib.Core.Path.{_≡_, refl, ap, _∙_}
+use mathlib.Core.List.{_++_}
+use native.Mathlib.Omega.{arith}
+use lib.ListN.{replicate, drop, getD}
+use borrow.Author.Needs.{needs}
+use Rattle.circle.specs.Over.{listBelow}
+use Rattle.circle.proofs.Over.{fill-store, getD-listBelow}
+use Rattle.street.specs.Streets.{timedStreet}
+use Rattle.plans.specs.Search.{place}
+use Rattle.plans.proofs.search.reduced.Statement.{statement}
+use Rattle.plans.proofs.search.reduced.Tie as tie
+
+abbrev Inv-loop : tie.InvT-loop
+Inv-loop s n h x₀ k₀ x k = (k ≤ s .signals) × (x ≡ listBelow k (place (timedStreet s)) ++ drop k (replicate 32 0))
+
+abbrev μ-loop : tie.MeasureT-loop
+μ-loop s n h x₀ k₀ x k = s .signals - k
+
+mul-h : tie.Need-mul-h Inv-loop μ-loop
+mul-h c = search needs
+
+loop-holds : tie.Need-loop-holds Inv-loop μ-loop
+unfolding listBelow
+loop-holds c = (search needs, refl)
+
+mul-remainder : tie.Need-mul-remainder Inv-loop μ-loop
+mul-remainder c = search needs
+
+element-copy-out-remainder : tie.Need-element-copy-out-remainder Inv-loop μ-loop
+element-copy-out-remainder c = search needs
+
+mul-remainder-2 : tie.Need-mul-remainder-2 Inv-loop μ-loop
+mul-remainder-2 c = search needs
+
+element-copy-out-remainder-2 : tie.Need-element-copy-out-remainder-2 Inv-loop μ-loop
+element-copy-out-remainder-2 c = search needs
+
+mul-remainder-3 : tie.Need-mul-remainder-3 Inv-loop μ-loop
+mul-remainder-3 c = search needs
+
+element-copy-out-remainder-3 : tie.Need-element-copy-out-remainder-3 Inv-loop μ-loop
+element-copy-out-remainder-3 c = search needs
+
+add-remainder : tie.Need-add-remainder Inv-loop μ-loop
+add-remainder c = omega (arith, c .before .before .before .before .before .pre .out (c .before .before .before .before .loop .k) (omega arith), c .before .before .before .before .before .pre .back (c .before .before .before .before .loop .k) (omega arith))
+
+remainder-requires : tie.Need-remainder-requires Inv-loop μ-loop
+remainder-requires c κs = omega (arith, c .before .before .before .before .before .pre .goes (c .before .before .before .before .loop .k) (omega arith), c .before .before .before .before .before .pre .shortest, c .before .before .before .before .before .pre .longest)
+
+mul-x : tie.Need-mul-x Inv-loop μ-loop
+mul-x c = search needs
+
+array-write-x : tie.Need-array-write-x Inv-loop μ-loop
+array-write-x c = search needs
+
+add-k : tie.Need-add-k Inv-loop μ-loop
+add-k c = search needs
+
+loop-less : tie.Need-loop-less Inv-loop μ-loop
+loop-less c = search needs
+
+loop-again : tie.Need-loop-again Inv-loop μ-loop
+loop-again c = (omega arith, fill-store (replicate 32 0) (c .before .before .before .before .before .loop .x) (place (timedStreet (c .before .before .before .before .before .before .args .t1))) (c .before .before .before .before .before .loop .k) (c .remainder .result) 0 (omega (arith, c .before .before .before .before .before .before .pre .few)) (c .before .before .before .before .before .loop .inv .1) (c .remainder .ensures))
+
+returns : tie.Need-returns Inv-loop μ-loop
+returns c = record { each = λ k l. ap (λ x. getD x k 0) (c .before .loop .inv .1) ∙ getD-listBelow (c .before .loop .k) (place (timedStreet (c .before .before .args .t1))) _ k 0 (omega arith) }
+
+pub reduced-spec : {M : Type 1} → statement M
+reduced-spec =
+    tie.close
+    (tie.spec
+    Inv-loop
+    μ-loop
+    mul-h
+    loop-holds
+    mul-remainder
+    element-copy-out-remainder
+    mul-remainder-2
+    element-copy-out-remainder-2
+    mul-remainder-3
+    element-copy-out-remainder-3
+    add-remainder
+    remainder-requires
+    mul-x
+    array-write-x
+    add-k
+    loop-less
+    loop-again
+    returns)

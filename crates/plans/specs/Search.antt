@@ -1,0 +1,50 @@
+-- What the search's own functions say of their numbers, in the method's terms. The search keeps widths raised by the cycle H, so that none is negative: a raised
+-- number less H is the signed one.
+use Prim.Native.Nat.{ℕ, _+_, _-_, _*_, _≤_, _<_}
+use mathlib.Core.Path.{_≡_}
+use mathlib.Core.List.{List, [], _∷_}
+use lib.IntN.{ℤ, pos, _-ℤ_}
+use lib.ListN.{getD}
+use Rattle.circle.specs.Man.{man}
+use Rattle.circle.specs.Signed.{maxℤ}
+use Rattle.circle.specs.Over.{leastBelow}
+use Rattle.circle.specs.Method.{Timed, halves, pairWidth, b, B, reference}
+use Rattle.plans.specs.declared.search.Candidate.{Candidate}
+
+-- a raised number as the signed number that it stands for
+abbrev pub lowered : Timed → ℕ → ℤ
+lowered s x = pos x -ℤ pos (halves s)
+
+-- a signal's place on the cycle: its red less its two sums, reduced once
+abbrev pub place : Timed → ℕ → ℕ
+place s k = man (halves s) (pos (s .red k) -ℤ pos (s .outbound k + s .inbound k))
+
+-- every signal's place
+pub record Reduced (s : Timed) (x : List ℕ) : Type 0 where
+  pub each : (k : ℕ) → k < s .signals → getD x k 0 ≡ place s k
+
+-- a pair's two raised widths from two places on the cycle and the limit's red
+abbrev pub pairOf : ℕ → ℕ → ℕ → ℕ → List ℕ
+pairOf cycle from to red =
+    (4 * cycle - man (2 * cycle) (pos from -ℤ pos to) - 2 * red)
+    ∷ (4 * cycle - man (2 * cycle) (pos from -ℤ pos to -ℤ pos cycle) - 2 * red)
+    ∷ []
+
+-- two raised widths, under phase 0 and under the cycle
+pub record Pair (s : Timed) (i j : ℕ) (w : List ℕ) : Type 0 where
+  pub even : lowered s (getD w 0 0) ≡ pairWidth s i j 0
+  pub odd : lowered s (getD w 1 0) ≡ pairWidth s i j (s .cycle)
+
+-- a candidate's row of pairs, one for each limit
+pub record Row (s : Timed) (i : ℕ) (row : List (List ℕ)) : Type 0 where
+  pub each : (j : ℕ) → j < s .signals → Pair s i j (getD row j [])
+
+-- the larger of a row's pair at a limit
+abbrev pub wider : List (List ℕ) → ℕ → ℤ
+wider row j = maxℤ (pos (getD (getD row j []) 0 0)) (pos (getD (getD row j []) 1 0))
+
+-- what the search answers: the reference, and B raised
+pub record Searched (s : Timed) (r : Candidate) : Type 0 where
+  pub found : r .signal ≡ reference s
+  pub width : lowered s (r .raised) ≡ B s
+  pub small : r .raised ≤ 4 * s .cycle

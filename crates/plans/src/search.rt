@@ -1,0 +1,141 @@
+// The search for the reference and B (01, 'The equal plan'). Widths are raised by the cycle H, so that none is negative. Each signal's
+// sums are reduced to the cycle once; from there a pair costs comparisons and differences alone, no division.
+use street::Street;
+ghost use mathlib.Core.Path.{_≡_};
+ghost use Prim.Native.Nat.{ℕ, _*_, _≤_, _<_};
+ghost use lib.IntN.{pos, _-ℤ_};
+ghost use lib.ListN.{getD};
+ghost use Rattle.circle.specs.Man.{man};
+ghost use Rattle.circle.specs.Signed.{minℤ, maxℤ};
+ghost use Rattle.circle.specs.Over.{leastBelow};
+ghost use Rattle.circle.specs.Method.{halves, b, phase, offset};
+ghost use Rattle.street.specs.Streets.{timedStreet, Sound};
+ghost use Rattle.plans.specs.Search.{lowered, pairOf, Reduced, Pair, Row, wider, Searched};
+
+// What the search settles on: the reference's index, counted from 0, and B raised by H.
+pub struct Candidate {
+    pub signal: usize,
+    pub raised: u32,
+}
+
+// The remainder of a - b by h, in 0 to h - 1.
+pub fn remainder(h: u32, a: u32, b: u32) -> u32
+    requires { ⌜ (1 ≤ h) × (h ≤ 12000) × (a ≤ 20000000) ⌝ }
+    ensures { λ r. ⌜ r ≡ man h (pos a -ℤ pos b) ⌝ }
+{
+    (a + (h - b % h)) % h
+}
+
+// The same where both lie on the cycle already: a comparison does for the division.
+fn back(h: u32, a: u32, b: u32) -> u32
+    requires { ⌜ (h ≤ 12000) × (a < h) × (b < h) ⌝ }
+    ensures { λ r. ⌜ r ≡ man h (pos a -ℤ pos b) ⌝ }
+{
+    if b <= a {
+        return a - b;
+    }
+    a + h - b
+}
+
+fn smaller(a: u32, b: u32) -> u32
+    ensures { λ r. ⌜ pos r ≡ minℤ (pos a) (pos b) ⌝ }
+{
+    if a <= b {
+        return a;
+    }
+    b
+}
+
+fn larger(a: u32, b: u32) -> u32
+    ensures { λ r. ⌜ pos r ≡ maxℤ (pos a) (pos b) ⌝ }
+{
+    if a <= b {
+        return b;
+    }
+    a
+}
+
+// Each signal's place on the cycle: its red less its two sums.
+pub fn reduced(s: Street) -> [u32; 32]
+    requires { ⌜ Sound s ⌝ }
+    ensures { λ r. ⌜ Reduced (timedStreet s) r ⌝ }
+{
+    let n = s.signals;
+    let h = 2 * s.cycle;
+    let mut x = [0u32; 32];
+    let mut k: usize = 0;
+    while k < n {
+        x[k] = remainder(h, s.reds[k], s.outbound[k] + s.inbound[k]);
+        k += 1;
+    }
+    x
+}
+
+// A pair's two raised widths, from the two signals' places on the cycle and the limit's red.
+pub fn pair(cycle: u32, from: u32, to: u32, red: u32) -> [u32; 2]
+    requires { ⌜ (1 ≤ cycle) × (cycle ≤ 6000) × (from < 2 * cycle) × (to < 2 * cycle) × (red < cycle) ⌝ }
+    ensures { λ r. ⌜ r ≡ pairOf cycle from to red ⌝ }
+{
+    let h = 2 * cycle;
+    let even = back(h, from, to);
+    let odd = back(h, even, cycle);
+    [2 * h - even - 2 * red, 2 * h - odd - 2 * red]
+}
+
+// A candidate's row: a pair of raised widths for each limit.
+fn row(s: Street, x: [u32; 32], i: usize) -> [[u32; 2]; 32]
+    requires { ⌜ Sound s × Reduced (timedStreet s) x × (i < s .signals) ⌝ }
+    ensures { λ r. ⌜ Row (timedStreet s) i r ⌝ }
+{
+    let n = s.signals;
+    let cycle = s.cycle;
+    let from = x[i];
+    let mut pairs = [[0u32; 2]; 32];
+    let mut j: usize = 0;
+    while j < n {
+        pairs[j] = pair(cycle, from, x[j], s.reds[j]);
+        j += 1;
+    }
+    pairs
+}
+
+// The least over the limits of the larger width of each pair: a candidate's b(i), raised.
+fn least(pairs: &[[u32; 2]; 32], n: usize) -> u32
+    requires { ⌜ (1 ≤ n) × (n ≤ 32) ⌝ }
+    ensures { λ r. ⌜ pos r ≡ leastBelow n (wider (now (pairs .entry))) ⌝ }
+{
+    let mut low = larger(pairs[0][0], pairs[0][1]);
+    let mut j: usize = 1;
+    while j < n {
+        low = smaller(low, larger(pairs[j][0], pairs[j][1]));
+        j += 1;
+    }
+    low
+}
+
+// The widths of every ordered pair under both phases, one row per candidate, filled once; and then the search over them for the
+// first candidate with the greatest b(i).
+pub fn reference(s: Street, x: [u32; 32]) -> Candidate
+    requires { ⌜ Sound s × Reduced (timedStreet s) x ⌝ }
+    ensures { λ r. ⌜ Searched (timedStreet s) r ⌝ }
+{
+    let n = s.signals;
+    let mut widths = [[[0u32; 2]; 32]; 32];
+    let mut i: usize = 0;
+    while i < n {
+        widths[i] = row(s, x, i);
+        i += 1;
+    }
+    let mut signal: usize = 0;
+    let mut raised = least(&widths[0], n);
+    let mut k: usize = 1;
+    while k < s.signals {
+        let candidate = least(&widths[k], n);
+        if raised < candidate {
+            raised = candidate;
+            signal = k;
+        }
+        k += 1;
+    }
+    Candidate { signal, raised }
+}

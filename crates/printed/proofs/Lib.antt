@@ -1,0 +1,9 @@
+-- What the proofs of several functions use, and the definitions run on examples.
+mod Sizes
+mod Buffers
+mod Decimals
+mod Signs
+mod Lines
+mod Examples
+pub mod Ways
+pub mod Unique

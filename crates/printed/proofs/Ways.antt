@@ -1,0 +1,141 @@
+-- Laws of the whole way: how many entries are lent, that a sheet's arrays give back the lists that were read, and what the text is for a refusal and for a plan. A refusal's
+-- text has no offsets, and a plan's are the first entries of the lent list, whatever stands behind that list. Assumes nothing.
+use Prim.Native.Nat.{ℕ, _+_, _-_, _≤_, _<_, min}
+use mathlib.Core.Path.{_≡_, refl, sym, ap, ap₂, _∙_, subst}
+use mathlib.Core.Bool.{cond}
+use mathlib.Core.List.{List, _++_}
+use native.Mathlib.Omega.{arith}
+use native.Mathlib.Decide.{decLt}
+use lib.ListN.{length, take, drop, replicate, length-append, length-drop, length-replicate, replicate-append-replicate}
+use lib.Seq.{length-take-le, take-append-le, take-append-seam, take-at}
+use borrow.Author.Tests.{lt-ltb, le-ltb}
+use Rattle.circle.specs.Over.{listBelow}
+use Rattle.circle.proofs.Over.{length-listBelow}
+use Rattle.street.specs.Limits.{maxSignals}
+use Rattle.street.specs.Lists.{Lists, typed, signals}
+use Rattle.street.specs.Checks.{planChecks}
+use Rattle.street.specs.Times.{timed, m}
+use Rattle.street.specs.declared.Refusal.{Refusal}
+use Rattle.street.specs.declared.Verdict.{Verdict}
+use Rattle.street.specs.declared.Verdict.the-variants.{Passed, Refused}
+use Rattle.sheet.specs.Form.{Writable, text}
+use Rattle.sheet.specs.Reading.{Parsed, accepted, refused, parsed, padded, sheetOf, reply, readingOf}
+use Rattle.sheet.specs.declared.Reading.{Reading}
+use Rattle.sheet.proofs.Form.{text-is-accepted, passed-is-text}
+use Rattle.plans.specs.Answers.{answered}
+use Rattle.plans.specs.Equal.{equalOffset, equalPlan, written, equalAnswer, equalAfter, Equal}
+use Rattle.plans.specs.declared.Plan.{Plan}
+use Rattle.plans.specs.declared.Answer.{Answer}
+use Rattle.printed.specs.declared.Printed.{Printed}
+use Rattle.printed.specs.Text.{planLine, offsetLines, refusalLine, textOf, printedOf, Prints}
+use Rattle.printed.specs.Way.{listsOf, lentOf, planText, answerText, equalText, Held}
+
+pub lent-room : (room : ℕ) → room < maxSignals → room ≡ lentOf room
+lent-room room l = ap (λ t. cond t room maxSignals) (sym (lt-ltb room maxSignals l))
+
+pub lent-whole : (room : ℕ) → maxSignals ≤ room → maxSignals ≡ lentOf room
+lent-whole room l = ap (λ t. cond t room maxSignals) (sym (le-ltb room maxSignals l))
+
+pub lent-le : (room k : ℕ) → k ≡ lentOf room → k ≤ maxSignals
+lent-le room k e = go (decLt room maxSignals)
+  where
+    go : Dec (room < maxSignals) → k ≤ maxSignals
+    go (yes l) = omega (arith, e, lent-room room l)
+    go (no n) = let l : maxSignals ≤ room = omega arith in omega (arith, e, lent-whole room l)
+
+zeros : ℕ → List ℕ
+zeros n = replicate n 0
+
+-- the first entries of a list of zeros
+take-zeros : (k n : ℕ) → k ≤ n → take k (zeros n) ≡ zeros k
+unfolding zeros
+take-zeros k n l =
+    let e : k + (n - k) ≡ n = omega arith in
+    ap (λ (i : ℕ). take k (zeros i)) (sym e)
+    ∙ ap (take k) (sym (replicate-append-replicate k (n - k) 0))
+    ∙ take-at (zeros k) (zeros (n - k)) k (length-replicate k 0)
+
+-- what stands behind the lent list is not printed
+behind : (v : Verdict) (p : Plan) (entries before rest : List ℕ) → textOf (answered v p) (take (length entries) (written v entries before ++ rest)) ≡ textOf (answered v p) (take (length entries) (written v entries before))
+behind Passed p entries before rest =
+    ap (λ xs. planLine p ++ offsetLines xs)
+    (take-append-le (length entries) (entries ++ drop (length entries) before) rest
+    (omega (arith, length-append entries (drop (length entries) before))))
+behind (Refused f) p entries before rest = refl
+
+-- the text of a plan as the code prints it: its answer, and the first of all the entries that the array now holds
+pub plan-text : (l : Lists) (room k n : ℕ) (r : Answer) (before after rest : List ℕ) → k ≡ lentOf room → n ≡ signals l → before ≡ take k (replicate maxSignals 0) → Equal l before after r → textOf r (take n (after ++ rest)) ≡ planText l room
+unfolding planText zeros
+plan-text l room k n r before after rest lent size clean ok =
+    let entries = listBelow (signals l) (equalOffset (timed l)) in
+    let start : before ≡ zeros (lentOf room) =
+    clean ∙ take-zeros k maxSignals (lent-le room k lent) ∙ ap zeros lent in
+    let long : length before ≡ lentOf room = ap length start ∙ length-replicate (lentOf room) 0 in
+    let many : n ≡ length entries = size ∙ sym (length-listBelow (signals l) (equalOffset (timed l))) in
+    ap₂ (λ a xs. textOf a (take n (xs ++ rest))) (ok .reply) (ok .after)
+    ∙ ap (λ (i : ℕ). textOf (equalAnswer l (length before)) (take i (equalAfter l before ++ rest))) many
+    ∙ behind (planChecks l (length before)) (equalPlan (timed l) (m l)) entries before rest
+    ∙ ap (λ (i : ℕ). textOf (equalAnswer l (length before)) (take i (equalAfter l before))) (sym many ∙ size)
+    ∙ ap₂ (λ (i : ℕ) xs. textOf (equalAnswer l i) (take (signals l) (equalAfter l xs))) long start
+
+-- a sheet's arrays hold its lists
+take-padded : (n : ℕ) (xs : List ℕ) → length xs ≡ n → take n (padded xs) ≡ xs
+take-padded n xs e = take-at xs (drop (length xs) (replicate maxSignals 0)) n e
+
+length-padded : (xs : List ℕ) → length xs ≤ maxSignals → length (padded xs) ≡ maxSignals
+unfolding zeros
+length-padded xs l =
+    omega (arith, length-append xs (drop (length xs) (zeros maxSignals)), length-drop (length xs) (zeros maxSignals), length-replicate {A = ℕ} maxSignals 0)
+
+lists-back : (l : Lists) → Writable l → listsOf (sheetOf l) ≡ l
+lists-back l ok =
+    λ i.
+    record {
+      cycle = l .cycle;
+      reds = take-padded (signals l) (l .reds) refl i;
+      distances = take-padded (signals l) (l .distances) (ok .distances) i;
+      outbound = take-padded (signals l - 1) (l .outbound) (ok .outbound) i;
+      inbound = take-padded (signals l - 1) (l .inbound) (ok .inbound) i;
+    }
+
+held : (l : Lists) → Writable l → Held (sheetOf l)
+held l ok =
+    record {
+      some = ok .some;
+      few = ok .few;
+      reds = length-padded (l .reds) (ok .few);
+      distances = length-padded (l .distances) (omega (arith, ok .few, ok .distances));
+      outbound = length-padded (l .outbound) (omega (arith, ok .few, ok .outbound));
+      inbound = length-padded (l .inbound) (omega (arith, ok .few, ok .inbound));
+    }
+
+-- what an accepted reading tells
+pub reading-held : (bytes : List ℕ) (r : Reading) → r ≡ readingOf bytes → r .verdict ≡ Passed → Held (r .sheet)
+reading-held bytes r e p =
+    let read = passed-is-text bytes (sym (ap (λ x. x .verdict) e) ∙ p) in
+    subst Held (sym (ap (λ x. x .sheet) (e ∙ read .3))) (held (read .0) (read .2))
+
+pub accepted-text : (bytes : List ℕ) (room : ℕ) (r : Reading) → r ≡ readingOf bytes → r .verdict ≡ Passed → planText (listsOf (r .sheet)) room ≡ equalText bytes room
+unfolding equalText
+accepted-text bytes room r e p =
+    let read = passed-is-text bytes (sym (ap (λ x. x .verdict) e) ∙ p) in
+    ap (λ x. planText (listsOf x) room) (ap (λ x. x .sheet) (e ∙ read .3))
+    ∙ ap (λ l. planText l room) (lists-back (read .0) (read .2))
+    ∙ sym (ap (λ x. answerText x room) (ap parsed (read .1) ∙ text-is-accepted (read .0) (read .2)))
+
+-- and a refused one
+pub refused-text : (bytes : List ℕ) (room : ℕ) (r : Reading) (f : Refusal) → r ≡ readingOf bytes → r .verdict ≡ Refused f → refusalLine f ≡ equalText bytes room
+unfolding equalText
+refused-text bytes room r f e q = go (parsed bytes) (sym (ap (λ x. x .verdict) e) ∙ q)
+  where
+    go : (p : Parsed) → reply p .verdict ≡ Refused f → refusalLine f ≡ answerText p room
+    go (accepted l) v = let z : _≡_ {A = ℕ} 0 1 = cc in absurd (omega arith)
+    go (refused c) v = let same : record { code = c; place = 0 } ≡ f = cc in ap refusalLine (sym same)
+
+-- a text lies within its buffer
+pub text-within : {t : List ℕ} {r : Printed} → Prints t r → r .count ≤ length (r .bytes)
+text-within {t} {r} ok =
+    omega (arith, ap (λ p. p .count) (ok .reply), ap (λ p. length (p .bytes)) (ok .reply), length-append t (drop (length t) (replicate 512 0)))
+
+pub text-count : {t : List ℕ} {r : Printed} → Prints t r → r .count ≡ length (take (r .count) (r .bytes))
+text-count {t} {r} ok = sym (length-take-le (r .count) (r .bytes) (text-within ok))

@@ -1,0 +1,65 @@
+-- The text of an answer, byte by byte (01, 'The printed plan'). Byte 32 is a space, 10 the line end, 45 the minus sign.
+use Prim.Native.Nat.{ℕ, suc}
+use mathlib.Core.Path.{_≡_}
+use mathlib.Core.List.{List, [], _∷_, _++_}
+use lib.ListN.{length, drop, replicate}
+use lib.IntN.{ℤ, pos, negsuc}
+use Rattle.street.specs.Codes.{codeNumber}
+use Rattle.street.specs.declared.Refusal.{Refusal}
+use Rattle.sheet.specs.Decimal.{decimal}
+use Rattle.plans.specs.declared.Plan.{Plan}
+use Rattle.plans.specs.declared.Answer.{Answer}
+use Rattle.plans.specs.declared.Answer.the-variants as answer
+use Rattle.printed.specs.declared.Printed.{Printed}
+
+-- a signed number's digits, with a minus sign directly before them where it is negative: `negsuc n` is -(n + 1)
+abbrev pub signedDecimal : ℤ → List ℕ
+signedDecimal (pos n) = decimal n
+signedDecimal (negsuc n) = 45 ∷ decimal (suc n)
+
+-- items with one space between each two
+abbrev pub spaced : List (List ℕ) → List ℕ
+spaced [] = []
+spaced (x ∷ []) = x
+spaced (x ∷ (y ∷ items)) = x ++ 32 ∷ spaced (y ∷ items)
+
+-- a line: its items, spaced, and the line end
+abbrev pub line : List (List ℕ) → List ℕ
+line items = spaced items ++ 10 ∷ []
+
+-- a plan's first line: c, B, outbound width, inbound width and m
+abbrev pub planLine : Plan → List ℕ
+planLine p =
+    line
+    (decimal (p .reference)
+    ∷ signedDecimal (p .b)
+    ∷ decimal (p .outbound)
+    ∷ decimal (p .inbound)
+    ∷ decimal (p .rounded)
+    ∷ [])
+
+-- the lines after it: one for each offset
+unfoldable pub offsetLines : List ℕ → List ℕ
+offsetLines [] = []
+offsetLines (f ∷ offsets) = line (decimal f ∷ []) ++ offsetLines offsets
+
+-- the letters of `refused`
+abbrev pub refused : List ℕ
+refused = 114 ∷ 101 ∷ 102 ∷ 117 ∷ 115 ∷ 101 ∷ 100 ∷ []
+
+-- a refusal's one line: the word, the code's number and the place
+abbrev pub refusalLine : Refusal → List ℕ
+refusalLine f = line (refused ∷ decimal (codeNumber (f .code)) ∷ decimal (f .place) ∷ [])
+
+-- the text of an answer whose offsets are those of the list
+abbrev pub textOf : Answer → List ℕ → List ℕ
+textOf (answer.Planned p) offsets = planLine p ++ offsetLines offsets
+textOf (answer.Refused f) offsets = refusalLine f
+
+-- a text as the printer hands it over: the bytes, zeros up to 512, and how many are text
+abbrev pub printedOf : List ℕ → Printed
+printedOf t = record { bytes = t ++ drop (length t) (replicate 512 0); count = length t }
+
+-- the contract of what prints: the reply is the text's
+pub record Prints (t : List ℕ) (r : Printed) : Type 0 where
+  pub reply : r ≡ printedOf t

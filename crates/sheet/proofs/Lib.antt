@@ -1,0 +1,13 @@
+pub mod Examples
+pub mod ByteKinds
+pub mod Numbers
+pub mod Otherwise
+pub mod Lines
+pub mod Backwards
+pub mod Sections
+pub mod Replies
+pub mod Unique
+pub mod Decimals
+pub mod LineForms
+pub mod Form
+pub mod Codes

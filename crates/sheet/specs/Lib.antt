@@ -1,0 +1,7 @@
+pub mod Decimal
+pub mod Bytes
+pub mod Numbers
+pub mod Sections
+pub mod Reading
+pub mod Form
+pub mod Cursors
