@@ -1,0 +1,90 @@
+//! Starting the proved programs. They are x86-64 programs; on another machine the kit's emulator runs them.
+
+use std::env;
+use std::ffi::OsString;
+use std::fs;
+use std::io::Write;
+use std::path::{Path, PathBuf};
+use std::process::{Command, Stdio};
+use std::thread;
+
+/// A program of the repository and the words that start it.
+pub struct Program {
+    pub name: String,
+    words: Vec<OsString>,
+}
+
+pub fn repository() -> &'static Path {
+    Path::new(env!("CARGO_MANIFEST_DIR")).parent().expect("compare/ stands in the repository")
+}
+
+/// The kit's compiler folder for this machine: two folders above the command `rt`, then its own part.
+fn toolchain() -> Result<PathBuf, String> {
+    let path = env::var_os("PATH").unwrap_or_default();
+    let found = env::split_paths(&path).map(|folder| folder.join("rt")).find(|file| file.is_file());
+    let rt = found.ok_or("the command rt is not on the PATH, and the programs need its emulator here")?;
+    let real = fs::canonicalize(&rt).map_err(|error| format!("{}: {error}", rt.display()))?;
+    let kit = real.ancestors().nth(2).ok_or("the command rt stands in no kit")?;
+    Ok(kit.join("on").join(env::consts::ARCH).join("toolchain"))
+}
+
+/// Whether the file is a program for x86-64: an ELF file with that machine's number.
+fn for_x86_64(file: &Path) -> Result<bool, String> {
+    let bytes = fs::read(file).map_err(|error| format!("{}: {error}; `rt ci` builds it", file.display()))?;
+    Ok(bytes.starts_with(b"\x7fELF") && bytes.get(18..20) == Some(&[0x3e, 0]))
+}
+
+fn words(file: &Path) -> Result<Vec<OsString>, String> {
+    let mut words = vec![];
+    if for_x86_64(file)? && env::consts::ARCH != "x86_64" {
+        let tools = toolchain()?;
+        let library = tools.join("lib");
+        words.push(tools.join("bin/qemu-x86_64").into_os_string());
+        words.push(library.join("ld-linux-x86-64.so.2").into_os_string());
+        words.push("--library-path".into());
+        words.push(library.into_os_string());
+    }
+    words.push(file.as_os_str().to_os_string());
+    Ok(words)
+}
+
+impl Program {
+    /// The program at the path that the environment names, or the one that `rt` left in target/bin/.
+    fn find(name: &str, variable: &str) -> Program {
+        let built = || repository().join("target/bin").join(name);
+        let file = env::var_os(variable).map_or_else(built, PathBuf::from);
+        let words = words(&file).unwrap_or_else(|fault| panic!("cannot run {name}: {fault}"));
+        Program { name: name.to_string(), words }
+    }
+
+    pub fn plan() -> Program {
+        Program::find("plan", "COMPARE_PLAN")
+    }
+
+    pub fn cases() -> Program {
+        Program::find("cases", "COMPARE_CASES")
+    }
+
+    /// What the program writes to its standard output for an input, provided that it ends well and says nothing else.
+    pub fn answer(&self, input: &[u8]) -> Result<Vec<u8>, String> {
+        let fault = |error: std::io::Error| format!("{}: {error}", self.name);
+        let mut child = Command::new(&self.words[0])
+            .args(&self.words[1..])
+            .stdin(Stdio::piped())
+            .stdout(Stdio::piped())
+            .stderr(Stdio::piped())
+            .spawn()
+            .map_err(fault)?;
+        let mut pipe = child.stdin.take().expect("the input is a pipe");
+        let bytes = input.to_vec();
+        // A program may stop reading before the end, so a refused write is no fault; it writes while it is read from.
+        let writer = thread::spawn(move || drop(pipe.write_all(&bytes)));
+        let ended = child.wait_with_output().map_err(fault)?;
+        writer.join().expect("the writer ends");
+        if !ended.status.success() || !ended.stderr.is_empty() {
+            let said = String::from_utf8_lossy(&ended.stderr).into_owned();
+            return Err(format!("{} ended with {} and said: {said}", self.name, ended.status));
+        }
+        Ok(ended.stdout)
+    }
+}

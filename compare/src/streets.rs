@@ -1,0 +1,140 @@
+//! Random streets that no check refuses, of every kind that the rules tell apart.
+
+use crate::random::Random;
+use crate::street::{Street, MAX_DISTANCE, SPEED};
+
+pub fn street(random: &mut Random) -> Street {
+    match random.below(6) {
+        0 => even(random),
+        1 => touching(random),
+        _ => mixed(random),
+    }
+}
+
+fn signals(random: &mut Random) -> usize {
+    match random.below(10) {
+        0 => 1,
+        1 => 2,
+        2 => 32,
+        3 | 4 => random.within(20, 32) as usize,
+        _ => random.within(1, 32) as usize,
+    }
+}
+
+fn cycle(random: &mut Random) -> i64 {
+    match random.below(6) {
+        0 => 10,
+        1 => 6_000,
+        2 => random.within(11, 30),
+        3 => 100 * random.within(5, 15),
+        4 => random.within(50, 300),
+        _ => random.within(10, 6_000),
+    }
+}
+
+/// One red each, by one style for the whole street: equal, wide, short, about half, at the ends, or any.
+fn reds(random: &mut Random, n: usize, cycle: i64) -> Vec<i64> {
+    let (style, same) = (random.below(6), random.within(1, cycle - 1));
+    let one = |_| match style {
+        0 => same,
+        1 => cycle - random.within(1, cycle / 8),
+        2 => random.within(1, cycle / 8),
+        3 => cycle / 2 + random.within(-cycle / 8, cycle / 8),
+        4 => random.pick(&[1, cycle - 1]),
+        _ => random.within(1, cycle - 1),
+    };
+    (0..n).map(one).collect()
+}
+
+/// Distances from gaps of one style: a few millimetres, a block, one length, whole multiples, or the longest street.
+fn distances(random: &mut Random, n: usize) -> Vec<i64> {
+    if random.one_in(6) {
+        return longest(random, n);
+    }
+    let (style, same) = (random.below(4), random.within(1, 600_000));
+    let mut along = vec![0];
+    for k in 1..n {
+        let gap = match style {
+            0 => random.within(1, 120),
+            1 => random.within(50_000, 600_000),
+            2 => same,
+            _ => 4_000 * random.within(1, 150),
+        };
+        along.push(along[k - 1] + gap);
+    }
+    let spare = MAX_DISTANCE - along[n - 1];
+    let start = random.pick(&[0, 1, spare]).min(spare);
+    along.into_iter().map(|distance| start + distance).collect()
+}
+
+/// A street that ends at the greatest distance, its signals anywhere before.
+fn longest(random: &mut Random, n: usize) -> Vec<i64> {
+    let step = MAX_DISTANCE / n as i64;
+    let spread = |k: i64, random: &mut Random| k * step + random.within(0, step - 1);
+    let mut along: Vec<i64> = (0..n as i64).map(|k| spread(k, random)).collect();
+    along[n - 1] = MAX_DISTANCE;
+    along
+}
+
+/// Speeds of both directions by one style: one speed, one for each direction, the ends, whole times, or any.
+fn speeds(random: &mut Random, links: usize) -> (Vec<i64>, Vec<i64>) {
+    let any = |random: &mut Random| random.within(SPEED.0, SPEED.1);
+    let (style, one, other) = (random.below(5), any(random), any(random));
+    let mut speed = |fixed: i64| match style {
+        0 => one,
+        1 => fixed,
+        2 => random.pick(&[SPEED.0, SPEED.1]),
+        3 => random.pick(&[1_000, 2_000, 4_000, 5_000, 8_000, 10_000, 20_000, 40_000]),
+        _ => any(random),
+    };
+    ((0..links).map(|_| speed(one)).collect(), (0..links).map(|_| speed(other)).collect())
+}
+
+fn mixed(random: &mut Random) -> Street {
+    let n = signals(random);
+    let cycle = cycle(random);
+    let (outbound, inbound) = speeds(random, n - 1);
+    Street { cycle, reds: reds(random, n, cycle), distances: distances(random, n), outbound, inbound }
+}
+
+/// The same red and the same link everywhere, so that candidates tie.
+fn even(random: &mut Random) -> Street {
+    let n = signals(random);
+    let cycle = cycle(random);
+    let red = random.within(1, cycle - 1);
+    let gap = 100 * random.within(1, 6_000);
+    let speed = random.pick(&[1_000, 10_000, 12_500, 40_000]);
+    Street {
+        cycle,
+        reds: vec![red; n],
+        distances: (0..n as i64).map(|k| k * gap).collect(),
+        outbound: vec![speed; n - 1],
+        inbound: vec![speed; n - 1],
+    }
+}
+
+/// Whole times chosen so that neighbours touch: the remainder in u is 0 under one of the phases.
+fn touching(random: &mut Random) -> Street {
+    let n = signals(random);
+    let cycle = random.within(10, 200);
+    let reds = reds(random, n, cycle);
+    let mut street = Street { cycle, reds, distances: vec![0], outbound: vec![], inbound: vec![] };
+    for k in 1..n {
+        let phase = random.pick(&[0, cycle]);
+        let there_and_back = (street.reds[k] - street.reds[k - 1] + phase).rem_euclid(2 * cycle);
+        let near = random.pick(&[0, 0, 0, 1, -1]);
+        add_link(random, &mut street, there_and_back + 2 * cycle + near);
+    }
+    street
+}
+
+/// Adds a link whose two times are whole and add up to the given ticks.
+fn add_link(random: &mut Random, street: &mut Street, there_and_back: i64) {
+    let out = random.within(there_and_back / 4 + 1, 3 * there_and_back / 4);
+    let back = there_and_back - out;
+    // A length of out * back * scale at 10 * back * scale takes exactly out, and the other way exactly back.
+    let scale = 100 / out.min(back) + 1;
+    street.distances.push(street.distances[street.distances.len() - 1] + out * back * scale);
+    street.outbound.push(10 * back * scale);
+    street.inbound.push(10 * out * scale);
+}
