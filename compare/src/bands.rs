@@ -1,6 +1,6 @@
-//! The bands of given offsets, by trying every departure. Here they hold the model itself to what a plan means.
+//! The measure of given offsets, by trying every departure, with its checks in the order of the codes.
 
-use crate::street::{Street, Times};
+use crate::street::{first, refusal, Refusal, Street, Times};
 
 /// The width of a direction's band and the smallest start that attains it.
 #[derive(Clone, Copy, Debug, PartialEq)]
@@ -13,33 +13,70 @@ fn red(instant: i64, offset: i64, red: i64, halves: i64) -> bool {
     (instant - (offset - red)).rem_euclid(halves) < 2 * red
 }
 
-/// The longest unbroken stretch of clear departures, round the cycle.
-fn longest(clear: &[bool]) -> Band {
+/// The length of the unbroken stretch of clear departures from each start, round the cycle and at most once.
+fn stretches(clear: &[bool]) -> Vec<i64> {
     let halves = clear.len();
-    let mut band = Band { width: 0, start: 0 };
-    for start in 0..halves {
-        let length = (0..halves).take_while(|k| clear[(start + k) % halves]).count() as i64;
-        if length > band.width {
-            band = Band { width: length, start: start as i64 };
-        }
+    let (mut lengths, mut length) = (vec![0; halves], 0);
+    // The second time round, a stretch over the end of the cycle is known as a whole.
+    for start in (0..halves).rev().chain((0..halves).rev()) {
+        length = if clear[start] { (length + 1).min(halves as i64) } else { 0 };
+        lengths[start] = length;
     }
-    band
+    lengths
 }
 
-/// The band of one direction, given each signal's lag in ticks behind the signal where cars enter.
-fn band(street: &Street, offsets: &[i64], lags: &[i64]) -> Band {
+/// The stretches of one direction, given each signal's lag in ticks behind the signal where cars enter.
+fn direction(street: &Street, offsets: &[i64], lags: &[i64]) -> Vec<i64> {
     let halves = street.halves();
     let green = |departure: i64, j: usize| !red(departure + 2 * lags[j], offsets[j], street.reds[j], halves);
     let clear: Vec<bool> =
         (0..halves).map(|departure| (0..lags.len()).all(|j| green(departure, j))).collect();
-    longest(&clear)
+    stretches(&clear)
 }
 
-/// The outbound band, from signal 1, and the inbound band, from signal n.
-pub fn measure(street: &Street, offsets: &[i64]) -> (Band, Band) {
+/// The stretches from each start: outbound ones at signal 1, inbound ones at signal n.
+fn directions(street: &Street, offsets: &[i64]) -> [Vec<i64>; 2] {
     let times = Times::of(street);
     let last = street.signals() - 1;
     let out: Vec<i64> = (0..=last).map(|j| times.t(0, j)).collect();
     let back: Vec<i64> = (0..=last).map(|j| times.back(last, j)).collect();
-    (band(street, offsets, &out), band(street, offsets, &back))
+    [direction(street, offsets, &out), direction(street, offsets, &back)]
+}
+
+fn longest(lengths: &[i64]) -> Band {
+    let width = *lengths.iter().max().expect("a cycle has an instant");
+    let start = lengths.iter().position(|&length| length == width).expect("a longest stretch starts");
+    Band { width, start: start as i64 }
+}
+
+/// The outbound band, from signal 1, and the inbound band, from signal n.
+pub fn measure(street: &Street, offsets: &[i64]) -> (Band, Band) {
+    let [out, back] = directions(street, offsets);
+    (longest(&out), longest(&back))
+}
+
+/// Whether some direction has a band, and more than one start attains it.
+pub fn ties(street: &Street, offsets: &[i64]) -> bool {
+    let tied = |lengths: Vec<i64>| {
+        let width = longest(&lengths).width;
+        width > 0 && lengths.iter().filter(|&&length| length == width).count() > 1
+    };
+    directions(street, offsets).into_iter().any(tied)
+}
+
+fn measure_fault(street: &Street, offsets: &[i64]) -> Option<Refusal> {
+    let outside = |k: usize| !(0..street.halves()).contains(&offsets[k]);
+    street
+        .count_fault()
+        .or_else(|| (offsets.len() != street.signals()).then(|| refusal(2, 0)))
+        .or_else(|| street.range_fault())
+        .or_else(|| first(offsets.len(), outside).map(|place| refusal(10, place)))
+}
+
+/// The bands of a street under any list of offsets, or the first fault.
+pub fn measured(street: &Street, offsets: &[i64]) -> Result<(Band, Band), Refusal> {
+    match measure_fault(street, offsets) {
+        Some(refusal) => Err(refusal),
+        None => Ok(measure(street, offsets)),
+    }
 }

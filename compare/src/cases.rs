@@ -1,23 +1,30 @@
 //! The program `cases` as a model: many requests in one input, each with its sheet, and a reply to each.
 
-use crate::printed::{planned, printed};
+use crate::printed::{measure_prints, planned, printed};
 use crate::street::MAX_SIGNALS;
 
 pub const LARGEST_INPUT: usize = 65_536;
 pub const LARGEST_ROOM: usize = 64;
 
 /// A request that is served. Those that are not built yet get the reply of a request of another form.
-#[derive(Clone, Copy, Debug, PartialEq)]
+#[derive(Clone, Debug, PartialEq)]
 pub enum Request {
     Equal { room: usize },
+    Measure { offsets: Vec<i64> },
+}
+
+/// A number of a request line: digits alone, and below 2^32.
+fn number(word: &str) -> Option<i64> {
+    let digits = word.bytes().all(|byte| byte.is_ascii_digit());
+    word.parse().ok().filter(|&value: &i64| digits && value < 1 << 32)
 }
 
 /// Takes `room K` off the end of a request's words, or gives the length that stands without it.
 fn room(words: &[&str]) -> Option<usize> {
     match words {
         [] => Some(MAX_SIGNALS),
-        ["room", length] if length.bytes().all(|byte| byte.is_ascii_digit()) => {
-            length.parse().ok().filter(|&length| length <= LARGEST_ROOM)
+        ["room", length] => {
+            number(length).map(|length| length as usize).filter(|&length| length <= LARGEST_ROOM)
         }
         _ => None,
     }
@@ -27,6 +34,10 @@ pub fn request(line: &[u8]) -> Option<Request> {
     let words: Vec<&str> = std::str::from_utf8(line).ok()?.split(' ').collect();
     match words[..] {
         ["equal", ref rest @ ..] => room(rest).map(|room| Request::Equal { room }),
+        ["measure", ref rest @ ..] => {
+            let offsets = rest.iter().map(|word| number(word)).collect::<Option<Vec<i64>>>()?;
+            Some(Request::Measure { offsets })
+        }
         _ => None,
     }
 }
@@ -37,6 +48,7 @@ pub fn reply(case: &[u8]) -> String {
     let served = end.and_then(|end| Some((request(&case[..end])?, &case[end + 1..])));
     match served {
         Some((Request::Equal { room }, sheet)) => printed(&planned(sheet, room)),
+        Some((Request::Measure { offsets }, sheet)) => measure_prints(sheet, &offsets),
         None => "bad request\n".to_string(),
     }
 }

@@ -1,19 +1,23 @@
 //! The rules of `docs/RULES.md` a second time, and what holds the programs to them.
 //!
 //! The model (`street`, `equal`, `bands`, `sheet`, `printed`, `cases`) follows the rules' signed formulas as
-//! they stand, by brute force, and shares nothing with the proved crates. The rest makes sheets (`random`,
-//! `streets`, `limits`, `damage`), runs the programs on them (`run`) and compares (`trial`, `coverage`).
+//! they stand, by brute force, and shares nothing with the proved crates. The rest makes sheets and requests
+//! (`random`, `streets`, `limits`, `damage`, `offsets`), runs the programs on them (`run`) and compares (`trial`,
+//! `hold`, `coverage`, `tally`).
 
 pub mod bands;
 pub mod cases;
 pub mod coverage;
 pub mod damage;
 pub mod equal;
+pub mod hold;
 pub mod limits;
+pub mod offsets;
 pub mod printed;
 pub mod random;
 pub mod run;
 pub mod sheet;
 pub mod street;
 pub mod streets;
+pub mod tally;
 pub mod trial;

@@ -1,5 +1,6 @@
-//! The text that a program prints for a plan or a refusal.
+//! The text that a program prints for a plan, measured bands or a refusal, and a plan read back from it.
 
+use crate::bands::{measured, Band};
 use crate::equal::{equal, Plan};
 use crate::sheet::read;
 use crate::street::{Refusal, MAX_SIGNALS};
@@ -14,7 +15,27 @@ pub fn printed(reply: &Result<Plan, Refusal>) -> String {
             }
             text
         }
-        Err(Refusal { code, place }) => format!("refused {code} {place}\n"),
+        Err(refusal) => refused(refusal),
+    }
+}
+
+fn refused(Refusal { code, place }: &Refusal) -> String {
+    format!("refused {code} {place}\n")
+}
+
+/// The plan in a program's reply, or nothing where it is no plan.
+pub fn plan_in(text: &str) -> Option<Plan> {
+    let numbers: Vec<i64> =
+        text.split_whitespace().map(|word| word.parse().ok()).collect::<Option<Vec<i64>>>()?;
+    let [reference, best, outbound, inbound, not_whole, ref offsets @ ..] = numbers[..] else { return None };
+    Some(Plan { reference, best, outbound, inbound, not_whole, offsets: offsets.to_vec() })
+}
+
+/// What a sheet gets for offsets to be measured: outbound width and start, inbound width and start.
+pub fn measure_prints(sheet: &[u8], offsets: &[i64]) -> String {
+    match read(sheet).and_then(|street| measured(&street, offsets)) {
+        Ok((Band { width, start }, back)) => format!("{width} {start} {} {}\n", back.width, back.start),
+        Err(refusal) => refused(&refusal),
     }
 }
 

@@ -31,7 +31,7 @@ fn outside(value: i64, range: (i64, i64)) -> bool {
 }
 
 /// The place, from 1, of the first index that is at fault.
-fn first(count: usize, at_fault: impl Fn(usize) -> bool) -> Option<i64> {
+pub fn first(count: usize, at_fault: impl Fn(usize) -> bool) -> Option<i64> {
     (0..count).find(|&k| at_fault(k)).map(|k| k as i64 + 1)
 }
 
@@ -49,7 +49,13 @@ impl Street {
     pub fn fault(&self, room: usize) -> Option<Refusal> {
         self.count_fault()
             .or_else(|| (room < self.signals()).then(|| refusal(3, 0)))
-            .or_else(|| outside(self.cycle, CYCLE).then(|| refusal(4, 0)))
+            .or_else(|| self.range_fault())
+    }
+
+    /// The first number outside its range, where the lists have the lengths of a street.
+    pub fn range_fault(&self) -> Option<Refusal> {
+        let cycle_fault = outside(self.cycle, CYCLE).then(|| refusal(4, 0));
+        cycle_fault
             .or_else(|| self.red_fault())
             .or_else(|| self.distance_fault())
             .or_else(|| self.speed_fault())

@@ -11,6 +11,12 @@ pub fn street(random: &mut Random) -> Street {
     }
 }
 
+/// A street of the given size, of any kind.
+pub fn sized(random: &mut Random, n: usize, cycle: i64) -> Street {
+    let (outbound, inbound) = speeds(random, n - 1);
+    Street { cycle, reds: reds(random, n, cycle), distances: distances(random, n), outbound, inbound }
+}
+
 fn signals(random: &mut Random) -> usize {
     match random.below(10) {
         0 => 1,
@@ -93,8 +99,7 @@ fn speeds(random: &mut Random, links: usize) -> (Vec<i64>, Vec<i64>) {
 fn mixed(random: &mut Random) -> Street {
     let n = signals(random);
     let cycle = cycle(random);
-    let (outbound, inbound) = speeds(random, n - 1);
-    Street { cycle, reds: reds(random, n, cycle), distances: distances(random, n), outbound, inbound }
+    sized(random, n, cycle)
 }
 
 /// The same red and the same link everywhere, so that candidates tie.

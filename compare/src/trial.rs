@@ -5,15 +5,23 @@ use crate::printed::plan_prints;
 use crate::random::Random;
 use crate::run::Program;
 use crate::sheet::write;
+use crate::street::Street;
 use crate::{damage, limits, streets};
 use std::env;
+use std::fmt::{Debug, Formatter};
 
 /// One request and its sheet; `number` makes it again from the seed.
-#[derive(Clone, Debug)]
+#[derive(Clone)]
 pub struct Case {
     pub number: u64,
     pub request: String,
     pub sheet: Vec<u8>,
+}
+
+impl Debug for Case {
+    fn fmt(&self, text: &mut Formatter) -> std::fmt::Result {
+        write!(text, "`{}` {}", self.request, self.sheet.escape_ascii())
+    }
 }
 
 impl Case {
@@ -21,16 +29,20 @@ impl Case {
         Case { number, request: "equal".to_string(), sheet }
     }
 
+    /// A request with a sheet of the street that may be damaged, but holds no byte 0.
+    pub fn asking(random: &mut Random, number: u64, request: String, street: &Street) -> Case {
+        let case = Case { number, request, sheet: sheet(random, street) };
+        if case.has_zero() {
+            return Case { sheet: write(street), ..case };
+        }
+        case
+    }
+
     pub fn random(seed: u64, number: u64) -> Case {
         let random = &mut Random::new(seed, number);
         let street = streets::street(random);
         let signals = street.signals();
-        let sheet = match random.below(20) {
-            0..=11 => write(&street),
-            12..=14 => limits::sheet(random, street),
-            _ => damage::sheet(random, &street),
-        };
-        let mut case = Case::equal(number, sheet);
+        let mut case = Case::equal(number, sheet(random, &street));
         if random.one_in(8) && !case.has_zero() {
             let any = random.below(LARGEST_ROOM + 1);
             case.request =
@@ -58,6 +70,15 @@ impl Case {
         for line in self.sheet.split_inclusive(|&byte| byte == 10) {
             println!("    {}", line.escape_ascii());
         }
+    }
+}
+
+/// A sheet of the street, as it is or with numbers past their ranges or damaged bytes.
+fn sheet(random: &mut Random, street: &Street) -> Vec<u8> {
+    match random.below(20) {
+        0..=11 => write(street),
+        12..=14 => limits::sheet(random, street.clone()),
+        _ => damage::sheet(random, street),
     }
 }
 

@@ -39,7 +39,7 @@ fn expect_bad(requests: &[&str]) {
 
 #[test]
 fn a_request_that_is_not_built_yet_is_bad() {
-    expect_bad(&["outbound 80", "inbound 80", "platoons 1 2", "measure 0 10"]);
+    expect_bad(&["outbound 80", "inbound 80", "platoons 1 2"]);
 }
 
 #[test]

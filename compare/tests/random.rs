@@ -4,6 +4,7 @@
 
 use compare::cases::reply;
 use compare::coverage::Coverage;
+use compare::hold::report;
 use compare::printed::{plan_prints, planned};
 use compare::run::Program;
 use compare::trial::{compare_plan, compare_run, in_parallel, indented, runs, setting, Case, Difference};
@@ -25,7 +26,7 @@ fn programs_answer_as_the_model_does() {
     let (alone, together): (Vec<Case>, Vec<Case>) = all.into_iter().partition(Case::has_zero);
     let mut differences = through_cases(&together);
     differences.extend(through_plan(&alone, &together));
-    report(seed, &differences);
+    report("random", seed, &differences);
     cover(&together);
     assert!(!alone.is_empty(), "no sheet held a byte 0");
 }
@@ -43,18 +44,6 @@ fn through_plan(alone: &[Case], together: &[Case]) -> Vec<Difference> {
     let chosen: Vec<&Case> = alone.iter().chain(some).collect();
     println!("{} sheets through `plan`, {} of them with a byte 0", chosen.len(), alone.len());
     in_parallel(&chosen, |case| compare_plan(&program, case))
-}
-
-/// Prints the first differences with the command that makes each again, and fails if there is one.
-fn report(seed: u64, differences: &[Difference]) {
-    for difference in differences.iter().take(3) {
-        let number = difference.case.number;
-        println!("\ncase {number} of seed {seed} differs");
-        difference.print();
-        println!("in compare/, this replays it alone:");
-        println!("    COMPARE_SEED={seed} COMPARE_CASE={number} cargo test --offline --locked --test random -- --show-output");
-    }
-    assert!(differences.is_empty(), "{} runs differ from the model", differences.len());
 }
 
 fn cover(cases: &[Case]) {
@@ -86,5 +75,5 @@ fn replay(seed: u64, number: u64) {
         case.print();
         return println!("the model and the program both answer\n{}", indented(&text));
     };
-    report(seed, &[difference]);
+    report("random", seed, &[difference]);
 }

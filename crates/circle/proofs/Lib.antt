@@ -11,3 +11,14 @@ pub mod Reference
 pub mod Named
 pub mod Perturbation
 pub mod Scale
+pub mod Moving
+pub mod MovedBands
+pub mod MovedBest
+pub mod Platoons
+pub mod EqualBest
+pub mod Tests
+pub mod Rounds
+pub mod Stretches
+pub mod Longest
+pub mod Candidates
+pub mod Alike

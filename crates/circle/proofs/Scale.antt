@@ -17,6 +17,7 @@ use Rattle.circle.proofs.Raised.{Fit, raised, larger-raised, b⁺, low,
 use Rattle.circle.proofs.Arcs.{since, Passes}
 use Rattle.circle.proofs.Since.{along, Stops, Rising, since-turns, passes-at}
 use Rattle.circle.proofs.Reference.{reference-first, u-turns}
+pub use Rattle.circle.specs.Method.{inUnits as scaled}
 
 -- turns in the finer unit
 turns-scaled : (N M a b : ℕ) → Turns M a b → Turns (N * M) (N * a) (N * b)
@@ -28,17 +29,6 @@ man-scaled N M a b n h =
     let c = turns-scaled N M (z + b) a (man-turns M a b h) in
     man-is (N * M) (N * a) (N * b) (N * z) (mul-lt-mul-of-pos-left (man-lt M (pos a -ℤ pos b) h) n)
     (record { p = c .p; q = c .q; eq = omega (arith, c .eq) })
-
--- a street in N times finer units
-abbrev pub scaled : ℕ → Timed → Timed
-scaled N s =
-    record {
-      cycle = N * s .cycle;
-      signals = s .signals;
-      red = λ j. N * s .red j;
-      outbound = λ j. N * s .outbound j;
-      inbound = λ j. N * s .inbound j;
-    }
 
 min-scaled : (N a b : ℕ) → min (N * a) (N * b) ≡ N * min a b
 min-scaled N a b = go (decLe a b)

@@ -67,3 +67,14 @@ redEnd s j f = man (halves s) (pos f +ℤ pos (s .red j))
 -- the instant at which that red starts: where a named inbound band ends at c
 unfoldable pub redStart : Timed → ℕ → ℕ → ℕ
 redStart s j f = man (halves s) (pos f -ℤ pos (s .red j))
+
+-- the same street counted in a unit of which N make one of these: everything is N times as long
+abbrev pub inUnits : ℕ → Timed → Timed
+inUnits N s =
+    record {
+      cycle = N * s .cycle;
+      signals = s .signals;
+      red = λ j. N * s .red j;
+      outbound = λ j. N * s .outbound j;
+      inbound = λ j. N * s .inbound j;
+    }

@@ -170,6 +170,14 @@ fn lent(room: usize) -> usize
     Street::MAX_SIGNALS
 }
 
+// The text of any call's answer, of whose offsets the first `signals` are printed, 32 at most.
+pub fn answer_text(answer: Answer, signals: usize, offsets: [u32; 32]) -> Printed
+    ensures { λ r. ⌜ Prints (textOf answer (take (lentOf signals) offsets)) r ⌝ }
+{
+    let n = lent(signals);
+    text(answer, n, offsets)
+}
+
 // A sheet's numbers, planned and printed.
 fn planned(s: Sheet, room: usize) -> Printed
     requires { ⌜ Held s ⌝ }

@@ -7,7 +7,7 @@ use mathlib.Core.List.{List, [], _∷_}
 use native.Mathlib.Omega.{arith}
 use lib.ListN.{length, getD}
 use lib.Dec.{leb, ltb}
-use borrow.Author.Tests.{ltb-false, leb-false, lt-ltb, leb-true, not-false}
+use borrow.Author.Tests.{ltb-false, leb-false, lt-ltb, leb-true, le-leb, not-false}
 use Rattle.circle.specs.Over.{Found, nowhere, at, firstBelow}
 use Rattle.circle.proofs.Over.{first-none}
 use Rattle.street.specs.Limits.{minSignals, maxSignals, minCycle, maxCycle, minRed, maxDistance, minSpeed, maxSpeed}
@@ -142,3 +142,10 @@ clear l room e =
       inbound =
           driveable (l .distances) (l .inbound) (omega arith) few (passed .distances) (λ k h. speeds k (omega arith) .inbound);
     }
+
+-- the checks pass with any room that is enough
+pub enough-room : (l : Lists) (room other : ℕ) → planChecks l room ≡ Passed → signals l ≤ other → planChecks l other ≡ Passed
+unfolding planChecks roomCheck
+enough-room l room other e fits =
+    let passed = all-passed l room e in
+    simp (passed .counts, le-leb (signals l) other fits, passed .cycle, passed .reds, passed .distances, passed .speeds)

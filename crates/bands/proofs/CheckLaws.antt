@@ -1,0 +1,83 @@
+-- The order of a measure's checks. They find the same first fault whether the offsets' length is tested in its place or before all, since either fault of the count is one
+-- refusal; and with as many offsets as reds they are the checks of a plan that has room, and the offsets' own after them. Where that passed, every offset is on the cycle.
+-- Assumes nothing.
+use Prim.Native.Nat.{ℕ, _-_, _*_, _≤_}
+use mathlib.Core.Path.{_≡_, refl, sym, ap, _∙_}
+use mathlib.Core.Bool.{Bool, true, false}
+use mathlib.Core.List.{List, [], _∷_, _++_}
+use native.Mathlib.Omega.{arith}
+use lib.ListN.{length, getD}
+use lib.Dec.{eqb}
+use borrow.Author.Tests.{eq-eqb, ne-eqb, le-leb, leb-false}
+use Rattle.circle.specs.Over.{Found, nowhere, at, firstBelow}
+use Rattle.circle.proofs.Over.{first-none}
+use Rattle.street.specs.Limits.{minSignals, maxSignals}
+use Rattle.street.specs.Lists.{Lists, signals}
+use Rattle.street.specs.Checks.{_and_, within, refuse, unless, faultAt, orNext, firstFault, countCheck, roomCheck, cycleCheck, redCheck, distanceCheck, speedCheck, planChecks}
+use Rattle.street.specs.declared.Code.{Code}
+use Rattle.street.specs.declared.Code.the-variants.{Count, Room, Offset}
+use Rattle.street.specs.declared.Street.{Street}
+use Rattle.street.specs.declared.Verdict.{Verdict}
+use Rattle.street.proofs.CheckLaws.{last-check}
+use Rattle.street.specs.declared.Verdict.the-variants as verdict
+use Rattle.bands.specs.Search.{Placed}
+use Rattle.bands.specs.Measure.{sizeCheck, badOffset, offsetCheck, measureChecks}
+
+-- checks in a row, and one after them
+next-next : (u v w : Verdict) → orNext u (orNext v w) ≡ orNext (orNext u v) w
+next-next verdict.Passed v w = refl
+next-next (verdict.Refused f) v w = refl
+
+faults-last : (vs : List Verdict) (v : Verdict) → firstFault (vs ++ (v ∷ [])) ≡ orNext (firstFault vs) v
+faults-last [] v = last-check v
+faults-last (u ∷ vs) v = ap (orNext u) (faults-last vs v) ∙ next-next u (firstFault vs) v
+
+-- a count's fault is one refusal, whichever list it is of
+count-faults : (t : Bool) (v : Verdict) → orNext (unless t Count) (orNext (refuse Count 0) v) ≡ refuse Count 0
+count-faults true v = refl
+count-faults false v = refl
+
+count-first : (n d o i : ℕ) (v : Verdict) → orNext (countCheck n d o i) (orNext (refuse Count 0) v) ≡ refuse Count 0
+unfolding countCheck
+count-first n d o i v = count-faults (within minSignals maxSignals n and eqb d n and eqb o (n - 1) and eqb i (n - 1)) v
+
+module _ (l : Lists) (offsets : List ℕ) where
+  counts : Verdict
+  counts = countCheck (signals l) (length (l .distances)) (length (l .outbound)) (length (l .inbound))
+
+  -- the checks of the lists' numbers, with the offsets' own after them or without it
+  ranges : List Verdict → List Verdict
+  ranges after =
+      cycleCheck (l .cycle) ∷ redCheck (l .cycle) (l .reds) ∷ distanceCheck (l .distances) ∷ speedCheck (l .outbound) (l .inbound) ∷ after
+
+  pub checks-short : (length offsets ≡ signals l → ⊥) → measureChecks l offsets ≡ refuse Count 0
+  unfolding measureChecks sizeCheck counts ranges
+  checks-short n =
+      let rest = firstFault (ranges (offsetCheck (l .cycle) offsets ∷ [])) in
+      ap (λ t. orNext counts (orNext (unless t Count) rest)) (ne-eqb (length offsets) (signals l) n)
+      ∙ count-first (signals l) (length (l .distances)) (length (l .outbound)) (length (l .inbound)) rest
+
+  pub checks-full : length offsets ≡ signals l → measureChecks l offsets ≡ orNext (planChecks l (signals l)) (offsetCheck (l .cycle) offsets)
+  unfolding measureChecks sizeCheck planChecks roomCheck counts ranges
+  checks-full e =
+      let last = offsetCheck (l .cycle) offsets in
+      let self : signals l ≤ signals l = omega arith in
+      ap (λ t. orNext counts (orNext (unless t Count) (firstFault (ranges (last ∷ []))))) (eq-eqb (length offsets) (signals l) e)
+      ∙ faults-last (counts ∷ verdict.Passed ∷ ranges []) last
+      ∙ ap (λ t. orNext (orNext counts (orNext (unless t Room) (firstFault (ranges [])))) last) (sym (le-leb (signals l) (signals l) self))
+
+-- the offsets' check passed: each is on the cycle
+no-fault : (code : Code) (f : Found) → faultAt code f ≡ verdict.Passed → f ≡ nowhere
+no-fault code nowhere e = refl
+no-fault code (at i) e = let z : _≡_ {A = ℕ} 0 1 = cc in absurd (omega arith)
+
+pub placed-on : (s : Street) (offsets : List ℕ) → length offsets ≡ s .signals → offsetCheck (s .cycle) offsets ≡ verdict.Passed → Placed s offsets
+unfolding offsetCheck
+placed-on s offsets count e =
+    record {
+      count = count;
+      each =
+          λ j l.
+          leb-false (2 * s .cycle) (getD offsets j 0)
+          (first-none (length offsets) (badOffset (s .cycle) offsets) (no-fault Offset (firstBelow (length offsets) (badOffset (s .cycle) offsets)) e) j (omega arith));
+    }

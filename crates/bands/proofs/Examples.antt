@@ -1,0 +1,103 @@
+-- Measures worked out. On small cycles the definition computes, instant by instant: a table of them, with ties, a street with no band and refusals. Row 14 of document 01 has
+-- a cycle of 200 halves; there each direction's two candidates are worked out, and the best of them is the band. Assumes nothing.
+use Prim.Native.Nat.{ℕ, zero, suc, _*_, _≤_, _<_}
+use mathlib.Core.Path.{_≡_, refl, sym, ap, _∙_}
+use mathlib.Core.List.{List, [], _∷_, map}
+use native.Mathlib.Omega.{arith}
+use lib.ListN.{getD}
+use Rattle.circle.specs.Over.{sumBelow, firstBelow}
+use Rattle.circle.specs.Method.{redStart}
+use Rattle.circle.specs.Bands.{Way, allBelow, greatestUpTo, clear, stretch, width, bandStart, outboundWay, inboundWay}
+use Rattle.circle.proofs.Candidates.{from, Best, IsBand, best-none, best-wider, best-stays, best-band}
+use Rattle.street.specs.Lists.{Lists, typed}
+use Rattle.street.specs.Checks.{countCheck, cycleCheck, redCheck, distanceCheck, speedCheck}
+use Rattle.street.specs.Times.{timed}
+use Rattle.street.specs.declared.Verdict.the-variants.{Passed}
+use Rattle.bands.specs.declared.Band.{Band}
+use Rattle.bands.specs.Measure.{Numbers, numbersOf, sizeCheck, offsetCheck, measureChecks, measuredOf, foundOr, measurementOf}
+
+-- a width and its start
+abbrev band : ℕ → ℕ → Band
+band width start = record { width = width; start = start }
+
+abbrev found : Band → Band → Numbers
+found outbound inbound = record { code = 0; place = 0; outbound = outbound; inbound = inbound }
+
+abbrev refused : ℕ → ℕ → Numbers
+refused code place = record { code = code; place = place; outbound = band 0 0; inbound = band 0 0 }
+
+-- a street's lists, offsets, and the numbers that they are answered with
+record Row : Type 0 where
+  lists : Lists
+  offsets : List ℕ
+  numbers : Numbers
+
+-- two signals with one red, one length of link and one speed either way, on a cycle of 10 ticks
+abbrev pair : ℕ → ℕ → Lists
+pair red link = typed 10 (red ∷ red ∷ []) (0 ∷ link ∷ []) (1000 ∷ []) (1000 ∷ [])
+
+rows : List Row
+rows =
+    record { lists = pair 5 50; offsets = 0 ∷ 2 ∷ []; numbers = found (band 10 5) (band 6 7) }
+    ∷ record { lists = pair 2 1000; offsets = 0 ∷ 10 ∷ []; numbers = found (band 6 2) (band 6 2) }
+    ∷ record { lists = pair 9 1000; offsets = 0 ∷ 10 ∷ []; numbers = found (band 0 0) (band 0 0) }
+    ∷ record { lists = pair 5 50; offsets = 0 ∷ 20 ∷ []; numbers = refused 10 2 }
+    ∷ record { lists = pair 10 50; offsets = 0 ∷ 20 ∷ []; numbers = refused 5 1 }
+    ∷ record { lists = typed 0 (5 ∷ []) (0 ∷ []) [] []; offsets = 0 ∷ 2 ∷ []; numbers = refused 2 0 }
+    ∷ []
+
+answers : map (λ (r : Row). numbersOf (measurementOf (r .lists) (r .offsets))) rows ≡ map (λ (r : Row). r .numbers) rows
+unfolding rows measureChecks countCheck sizeCheck cycleCheck redCheck distanceCheck speedCheck offsetCheck firstBelow sumBelow width bandStart greatestUpTo allBelow stretch clear redStart
+answers = refl
+
+-- row 14: street A at 0, 10
+abbrev streetA : Lists
+streetA = typed 100 (40 ∷ 50 ∷ []) (0 ∷ 30000 ∷ []) (10000 ∷ []) (15000 ∷ [])
+
+abbrev offsetsA : List ℕ
+offsetsA = 0 ∷ 10 ∷ []
+
+abbrev outA : Way
+outA = outboundWay (timed streetA) (λ j. getD offsetsA j 0)
+
+abbrev inA : Way
+inA = inboundWay (timed streetA) (λ j. getD offsetsA j 0)
+
+-- either way, no red is longer than the cycle
+reds-fit : (j : ℕ) → j < 2 → 2 * getD (40 ∷ 50 ∷ []) j 0 ≤ 200
+reds-fit zero l = omega arith
+reds-fit (suc zero) l = omega arith
+reds-fit (suc (suc j)) l = absurd (omega arith)
+
+-- outbound the first candidate has 60 from 40, and the second nothing
+out-best : Best outA 2 60 40
+unfolding redStart sumBelow allBelow greatestUpTo clear stretch
+out-best =
+    let first : 0 < from outA 0 = omega arith in
+    best-stays outA 1 60 40 (best-wider outA 0 0 0 (best-none outA) first) (omega arith) (λ e. absurd (omega arith))
+
+-- inbound the first has nothing, and the second 60 from 60
+in-best : Best inA 2 60 60
+unfolding redStart sumBelow allBelow greatestUpTo clear stretch
+in-best =
+    let second : 0 < from inA 1 = omega arith in
+    best-wider inA 1 0 0 (best-stays inA 0 0 0 (best-none inA) (omega arith) (λ e. omega arith)) second
+
+out-band : IsBand outA 60 40
+out-band =
+    best-band outA (record { turns = omega arith; fits = reds-fit }) 0 (omega arith) (omega arith) 60 40 out-best
+
+in-band : IsBand inA 60 60
+in-band = best-band inA (record { turns = omega arith; fits = reds-fit }) 0 (omega arith) (omega arith) 60 60 in-best
+
+checks-pass : measureChecks streetA offsetsA ≡ Passed
+unfolding measureChecks countCheck sizeCheck cycleCheck redCheck distanceCheck speedCheck offsetCheck firstBelow
+checks-pass = refl
+
+pub row14 : numbersOf (measurementOf streetA offsetsA) ≡ found (band 60 40) (band 60 60)
+row14 =
+    ap (λ v. numbersOf (foundOr v (measuredOf (timed streetA) offsetsA))) checks-pass
+    ∙ (λ i.
+    found
+    (band (sym (out-band .wide) i) (sym (out-band .starts) i))
+    (band (sym (in-band .wide) i) (sym (in-band .starts) i)))

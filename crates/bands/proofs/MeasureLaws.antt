@@ -1,0 +1,137 @@
+-- From the street that the search works on to the measure of the typed lists. Seen from where it departs, a direction has the band of its way; the street and the lists agree
+-- at every signal, so their bands are the same. The call answers by the checks, or with these bands. Assumes nothing.
+use Prim.Native.Nat.{ℕ, zero, suc, _+_, _-_, _*_, _≤_, _<_}
+use mathlib.Core.Path.{_≡_, refl, sym, ap, _∙_, subst}
+use mathlib.Core.List.{List}
+use mathlib.Core.Logic.{⊎-elim}
+use native.Mathlib.Omega.{arith}
+use native.Mathlib.Nat.{eq-or-lt-of-le, le-of-suc-le-suc}
+use lib.IntN.{pos, _-ℤ_}
+use lib.ListN.{length, getD, drop, replicate}
+use Rattle.circle.specs.Over.{at, sumBelow}
+use Rattle.circle.specs.Method.{Timed, halves, redStart}
+use Rattle.circle.specs.Bands.{Way, outboundWay, inboundWay}
+use Rattle.circle.proofs.Man.{man-lt}
+use Rattle.circle.proofs.Over.{getD-listBelow}
+use Rattle.circle.proofs.Alike.{outbound-alike, inbound-alike}
+use Rattle.street.specs.Limits.{maxSignals}
+use Rattle.street.specs.Lists.{Lists, signals}
+use Rattle.street.specs.Checks.{_and_, orNext, planChecks}
+use Rattle.street.specs.Times.{timed, linkTicks}
+use Rattle.street.specs.Streets.{padded, streetOf, surveyed, surveyedAs, timedStreet, Sound}
+use Rattle.street.specs.declared.Code.the-variants.{Count}
+use Rattle.street.specs.declared.Refusal.{Refusal}
+use Rattle.street.specs.declared.Street.{Street}
+use Rattle.street.specs.declared.Surveyed.{Surveyed}
+use Rattle.street.specs.declared.Verdict.{Verdict}
+use Rattle.street.proofs.Sound.{sound, street-agrees}
+use Rattle.street.specs.declared.Verdict.the-variants as verdict
+use Rattle.bands.specs.declared.Band.{Band}
+use Rattle.bands.specs.declared.Direction.{Direction}
+use Rattle.bands.specs.declared.Measurement.{Measurement}
+use Rattle.bands.specs.Search.{lagOf, endOf, Onward, OnCycle, seen}
+use Rattle.bands.specs.Measure.{offsetCheck, bandOf, measuredOf, foundOr, measurementOf}
+use Rattle.bands.specs.declared.Measurement.the-variants as measurement
+use Rattle.bands.proofs.SearchLaws.{seen-alike, band-alike}
+use Rattle.bands.proofs.CheckLaws.{checks-short, checks-full}
+
+-- a direction's way under given offsets
+abbrev pub wayOf : Direction → Timed → List ℕ → Way
+wayOf direction s offsets =
+    record {
+      around = halves s;
+      signals = s .signals;
+      start = λ j. redStart s j (getD offsets j 0);
+      length = λ j. 2 * s .red j;
+      lag = lagOf direction s;
+    }
+
+module _ (s : Street) (ok : Sound s) (direction : Direction) (offsets ends : List ℕ) (is : ends ≡ padded (s .signals) (endOf direction (timedStreet s) offsets)) where
+  end-at : (j : ℕ) → j < s .signals → getD ends j 0 ≡ endOf direction (timedStreet s) offsets j
+  end-at j l =
+      ap (λ xs. getD xs j 0) is
+      ∙ getD-listBelow (s .signals) (endOf direction (timedStreet s) offsets) (drop (s .signals) (replicate maxSignals 0)) j 0 l
+
+  pub ends-on : OnCycle s ends
+  ends-on =
+      let H = halves (timedStreet s) in
+      let turns : 0 < H = omega (arith, ok .shortest) in
+      record {
+        each =
+            λ j l.
+            omega (arith, end-at j l, man-lt H (pos (getD offsets j 0 + getD (s .reds) j 0) -ℤ pos (lagOf direction (timedStreet s) j)) turns);
+      }
+
+  pub band-way : (b : Band) → b ≡ bandOf (seen (timedStreet s) ends) → b ≡ bandOf (wayOf direction (timedStreet s) offsets)
+  band-way b e =
+      e
+      ∙ band-alike (seen (timedStreet s) ends) (wayOf direction (timedStreet s) offsets)
+      (seen-alike (timedStreet s) offsets ends (lagOf direction (timedStreet s)) (omega (arith, ok .shortest)) end-at)
+
+-- a street of lists that passed: its inbound times grow along it
+sum-grows : (f : ℕ → ℕ) (k j : ℕ) → j ≤ k → sumBelow j f ≤ sumBelow k f
+unfolding sumBelow
+sum-grows f zero j l = let e : j ≡ 0 = omega arith in omega (arith, ap (λ (n : ℕ). sumBelow n f) e)
+sum-grows f (suc k) j l =
+    ⊎-elim
+    (λ e. omega (arith, ap (λ (n : ℕ). sumBelow n f) e))
+    (λ m. omega (arith, sum-grows f k j (le-of-suc-le-suc m)))
+    (eq-or-lt-of-le l)
+
+pub onward : (l : Lists) → 0 < signals l → Onward (streetOf l)
+onward l some =
+    let n = signals l in
+    let f = linkTicks (l .distances) (l .inbound) in
+    let rest : List ℕ = drop n (replicate maxSignals 0) in
+    record {
+      each =
+          λ j lj.
+          let last : n - 1 < n = omega arith in
+          omega (arith, getD-listBelow n (timed l .inbound) rest j 0 lj, getD-listBelow n (timed l .inbound) rest (n - 1) 0 last, sum-grows f (n - 1) j (omega arith));
+    }
+
+-- the street's measure is the lists'
+pub measured-agree : (l : Lists) (room : ℕ) (offsets : List ℕ) → planChecks l room ≡ verdict.Passed → measuredOf (timedStreet (streetOf l)) offsets ≡ measuredOf (timed l) offsets
+measured-agree l room offsets passed =
+    let z = timedStreet (streetOf l) in
+    let agree = street-agrees l room passed in
+    let f : ℕ → ℕ = λ j. getD offsets j 0 in
+    λ i.
+    record {
+      outbound = band-alike (outboundWay z f) (outboundWay (timed l) f) (outbound-alike z (timed l) agree f) i;
+      inbound = band-alike (inboundWay z f) (inboundWay (timed l) f) (inbound-alike z (timed l) agree f) i;
+    }
+
+module _ (l : Lists) (offsets : List ℕ) where
+  -- what the call answers: to too few or too many offsets, to a street that is refused, and to one whose checks passed
+  pub measure-short : (length offsets ≡ signals l → ⊥) → measurement.Refused (record { code = Count; place = 0 }) ≡ measurementOf l offsets
+  measure-short n = sym (ap (λ v. foundOr v (measuredOf (timed l) offsets)) (checks-short l offsets n))
+
+  pub measure-refused : (f : Refusal) → length offsets ≡ signals l → planChecks l (signals l) ≡ verdict.Refused f → measurement.Refused f ≡ measurementOf l offsets
+  measure-refused f e r =
+      sym (ap (λ v. foundOr v (measuredOf (timed l) offsets)) (checks-full l offsets e ∙ ap (λ v. orNext v (offsetCheck (l .cycle) offsets)) r))
+
+  pub measure-surveyed : (s : Street) (r : Measurement) → length offsets ≡ signals l → planChecks l (signals l) ≡ verdict.Passed → s ≡ streetOf l → r ≡ foundOr (offsetCheck (s .cycle) offsets) (measuredOf (timedStreet s) offsets) → r ≡ measurementOf l offsets
+  measure-surveyed s r e passed is answer =
+      answer
+      ∙ ap (λ x. foundOr (offsetCheck (x .cycle) offsets) (measuredOf (timedStreet x) offsets)) is
+      ∙ ap (foundOr (offsetCheck (l .cycle) offsets)) (measured-agree l (signals l) offsets passed)
+      ∙ sym (ap (λ v. foundOr v (measuredOf (timed l) offsets)) (checks-full l offsets e ∙ ap (λ v. orNext v (offsetCheck (l .cycle) offsets)) passed))
+
+-- what the constructor's answer tells of the checks
+pub survey-verdict : (l : Lists) (room : ℕ) (x : Surveyed) (v : Verdict) → x ≡ surveyed l room → x .verdict ≡ v → planChecks l room ≡ v
+survey-verdict l room x v e told = sym (tells (planChecks l room)) ∙ ap (λ y. y .verdict) (sym e) ∙ told
+  where
+    tells : (p : Verdict) → surveyedAs p (streetOf l) .verdict ≡ p
+    tells verdict.Passed = refl
+    tells (verdict.Refused f) = refl
+
+pub survey-street : (l : Lists) (room : ℕ) (x : Surveyed) → x ≡ surveyed l room → planChecks l room ≡ verdict.Passed → x .street ≡ streetOf l
+survey-street l room x e passed = ap (λ y. y .street) e ∙ ap (λ p. surveyedAs p (streetOf l) .street) passed
+
+-- and what holds of a street that passed
+pub survey-sound : (l : Lists) (room : ℕ) (s : Street) → s ≡ streetOf l → planChecks l room ≡ verdict.Passed → Sound s
+survey-sound l room s e passed = subst Sound (sym e) (sound l room passed)
+
+pub survey-onward : (l : Lists) (room : ℕ) (s : Street) → s ≡ streetOf l → planChecks l room ≡ verdict.Passed → Onward s
+survey-onward l room s e passed = subst Onward (sym e) (onward l (omega (arith, sound l room passed .some)))

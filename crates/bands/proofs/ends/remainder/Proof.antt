@@ -1,0 +1,25 @@
+-- `bands::ends::remainder` meets its contract: the code's two remainders are `man` of the difference, and what the first takes from h is below h. Assumes nothing.
+use native.Mathlib.Nat.{mod-lt}
+use native.Mathlib.Omega.{arith}
+use borrow.Author.Needs.{needs}
+use Rattle.circle.proofs.Rounds.{remainder-man}
+use Rattle.bands.proofs.ends.remainder.Statement.{statement}
+use Rattle.bands.proofs.ends.remainder.Tie as tie
+
+rem-result : tie.Need-rem-result
+rem-result c = search needs
+
+sub-result : tie.Need-sub-result
+sub-result c = omega (arith, mod-lt (c .args .b) (c .pre .0))
+
+add-result : tie.Need-add-result
+add-result c = search needs
+
+rem-result-2 : tie.Need-rem-result-2
+rem-result-2 c = search needs
+
+returns : tie.Need-returns
+returns c = remainder-man _ _ _ (c .pre .0)
+
+pub remainder-spec : {M : Type 1} → statement M
+remainder-spec = tie.close (tie.spec rem-result sub-result add-result rem-result-2 returns)

@@ -1,0 +1,26 @@
+-- `bands::stretches::left` meets its contract: a red and the time since it ended are at most two turns, and where they exceed one the truncated difference is 0. Assumes
+-- nothing.
+use native.Mathlib.Omega.{arith}
+use lib.IntN.{pos, _-ℤ_}
+use borrow.Author.Needs.{needs}
+use Rattle.circle.proofs.Man.{man-lt}
+use Rattle.bands.proofs.stretches.left.Statement.{statement}
+use Rattle.bands.proofs.stretches.left.Tie as tie
+
+mul-gone : tie.Need-mul-gone
+mul-gone c = search needs
+
+since-requires : tie.Need-since-requires
+since-requires c κs = search needs
+
+add-gone : tie.Need-add-gone
+add-gone c = omega (arith, c .since .ensures, man-lt (c .before .args .h) (pos (c .before .args .x) -ℤ pos (c .before .args .end)) (omega arith))
+
+returns : tie.Need-returns
+returns c = search needs
+
+returns-2 : tie.Need-returns-2
+returns-2 c = search needs
+
+pub left-spec : {M : Type 1} → statement M
+left-spec = tie.close (tie.spec mul-gone since-requires add-gone returns returns-2)

@@ -1,0 +1,20 @@
+-- `bands::stretches::since` meets its contract: on the cycle, the remainder of a difference is the difference itself or one turn more. Assumes nothing.
+use borrow.Author.Needs.{needs}
+use Rattle.circle.proofs.Rounds.{since-within, since-round}
+use Rattle.bands.proofs.stretches.since.Statement.{statement}
+use Rattle.bands.proofs.stretches.since.Tie as tie
+
+returns : tie.Need-returns
+returns c = since-within _ _ _ (c .before .pre .1) (c .if1 .taken)
+
+add-result : tie.Need-add-result
+add-result c = search needs
+
+sub-result : tie.Need-sub-result
+sub-result c = search needs
+
+returns-2 : tie.Need-returns-2
+returns-2 c = since-round _ _ _ (c .before .pre .2) (c .if1 .left)
+
+pub since-spec : {M : Type 1} → statement M
+since-spec = tie.close (tie.spec returns add-result sub-result returns-2)

@@ -1,0 +1,82 @@
+-- What `measure` answers (01, 'Measuring'): the first fault of its checks, or each direction's width and the smallest start that attains it, by the instants that are clear.
+use Prim.Native.Nat.{ℕ, _*_}
+use mathlib.Core.Bool.{Bool}
+use mathlib.Core.List.{List, [], _∷_}
+use lib.ListN.{length, getD}
+use lib.Dec.{leb, eqb}
+use Rattle.circle.specs.Over.{firstBelow}
+use Rattle.circle.specs.Method.{Timed}
+use Rattle.circle.specs.Bands.{Way, width, bandStart, outboundWay, inboundWay}
+use Rattle.street.specs.Lists.{Lists, signals}
+use Rattle.street.specs.Codes.{codeNumber}
+use Rattle.street.specs.Checks.{unless, faultAt, firstFault, countCheck, cycleCheck, redCheck, distanceCheck, speedCheck}
+use Rattle.street.specs.Times.{timed}
+use Rattle.street.specs.declared.Code.the-variants.{Count, Offset}
+use Rattle.street.specs.declared.Verdict.{Verdict}
+use Rattle.street.specs.declared.Verdict.the-variants as verdict
+use Rattle.bands.specs.declared.Band.{Band}
+use Rattle.bands.specs.declared.Measured.{Measured}
+use Rattle.bands.specs.declared.Measurement.{Measurement}
+use Rattle.bands.specs.declared.Measurement.the-variants as measurement
+
+-- 2 COUNT, for the list of offsets: it has one for each signal (01, 'Codes, in order of checking')
+unfoldable pub sizeCheck : ℕ → ℕ → Verdict
+sizeCheck n offsets = unless (eqb offsets n) Count
+
+-- whether the offset at an index is not below H, the cycle in halves (01, 'Red, departure, band')
+abbrev pub badOffset : ℕ → List ℕ → ℕ → Bool
+badOffset cycle offsets j = leb (2 * cycle) (getD offsets j 0)
+
+-- 10 OFFSET: the first such offset, by its signal's number (01, 'Codes, in order of checking')
+unfoldable pub offsetCheck : ℕ → List ℕ → Verdict
+offsetCheck cycle offsets = faultAt Offset (firstBelow (length offsets) (badOffset cycle offsets))
+
+-- the checks of a measure in their order, every list's length before any number (01, 'Codes, in order of checking')
+unfoldable pub measureChecks : Lists → List ℕ → Verdict
+measureChecks l offsets =
+    firstFault
+    (countCheck (signals l) (length (l .distances)) (length (l .outbound)) (length (l .inbound))
+    ∷ sizeCheck (signals l) (length offsets)
+    ∷ cycleCheck (l .cycle)
+    ∷ redCheck (l .cycle) (l .reds)
+    ∷ distanceCheck (l .distances)
+    ∷ speedCheck (l .outbound) (l .inbound)
+    ∷ offsetCheck (l .cycle) offsets
+    ∷ [])
+
+-- a direction's band: its width, and the smallest start that attains it (01, 'Measuring')
+abbrev pub bandOf : Way → Band
+bandOf w = record { width = width w; start = bandStart w }
+
+-- both directions' bands under given offsets, outbound counted at signal 1 and inbound at signal n (01, 'Measuring')
+abbrev pub measuredOf : Timed → List ℕ → Measured
+measuredOf s offsets =
+    record {
+      outbound = bandOf (outboundWay s (λ j. getD offsets j 0));
+      inbound = bandOf (inboundWay s (λ j. getD offsets j 0));
+    }
+
+-- a call's answer by the verdict of its checks: the refusal, or the measure where they passed (01, 'Codes, in order of checking')
+abbrev pub foundOr : Verdict → Measured → Measurement
+foundOr verdict.Passed m = measurement.Found m
+foundOr (verdict.Refused f) m = measurement.Refused f
+
+-- the answer to a street's lists and offsets: the first fault there is, or the bands at rounded times (01, 'Measuring')
+abbrev pub measurementOf : Lists → List ℕ → Measurement
+measurementOf l offsets = foundOr (measureChecks l offsets) (measuredOf (timed l) offsets)
+
+-- an answer in numbers: the code and place of a refusal, and each band's width and start (01, 'Measuring' and 'Codes, in order of checking')
+pub record Numbers : Type 0 where
+  pub code : ℕ
+  pub place : ℕ
+  pub outbound : Band
+  pub inbound : Band
+
+-- the band that goes with a refusal, whose other numbers are 0 (01, 'Codes, in order of checking')
+abbrev pub noBand : Band
+noBand = record { width = 0; start = 0 }
+
+-- a measure has code and place 0, a refusal has no width and no start (01, 'Codes, in order of checking')
+abbrev pub numbersOf : Measurement → Numbers
+numbersOf (measurement.Found m) = record { code = 0; place = 0; outbound = m .outbound; inbound = m .inbound }
+numbersOf (measurement.Refused f) = record { code = codeNumber (f .code); place = f .place; outbound = noBand; inbound = noBand }

@@ -1,0 +1,63 @@
+-- What the search's own functions say of their numbers. A direction is its lags; seen from where it departs, a street is its reds' lengths and the instants at which they end.
+use Prim.Native.Nat.{ℕ, _+_, _-_, _*_, _≤_, _<_}
+use mathlib.Core.Path.{_≡_}
+use mathlib.Core.Bool.{cond}
+use mathlib.Core.List.{List}
+use lib.IntN.{pos, _-ℤ_}
+use lib.ListN.{length, getD}
+use lib.Dec.{ltb}
+use Rattle.circle.specs.Man.{man}
+use Rattle.circle.specs.Method.{Timed, halves}
+use Rattle.circle.specs.Bands.{Way, greatestUpTo, stretch}
+use Rattle.street.specs.Streets.{timedStreet}
+use Rattle.street.specs.declared.Street.{Street}
+use Rattle.bands.specs.declared.Band.{Band}
+use Rattle.bands.specs.declared.Direction.{Direction}
+use Rattle.bands.specs.declared.Direction.the-variants.{Outbound, Inbound}
+
+-- how long after its departure a car is at signal j, in halves (01, 'Red, departure, band')
+abbrev pub lagOf : Direction → Timed → ℕ → ℕ
+lagOf Outbound s j = 2 * s .outbound j
+lagOf Inbound s j = 2 * (s .inbound (s .signals - 1) - s .inbound j)
+
+-- the instant, at the departure signal, of the car that comes to signal j as its red ends: the red's end is the offset and the red together (01, 'Red, departure, band')
+abbrev pub endOf : Direction → Timed → List ℕ → ℕ → ℕ
+endOf direction s offsets j = man (halves s) (pos (getD offsets j 0 + s .red j) -ℤ pos (lagOf direction s j))
+
+-- inbound times grow along the street, so that none is above signal n's (01, 'Travel time')
+pub record Onward (s : Street) : Type 0 where
+  pub each : (j : ℕ) → j < s .signals → getD (s .inbound) j 0 ≤ getD (s .inbound) (s .signals - 1) 0
+
+-- an offset for each signal, each below H (01, 'Red, departure, band')
+pub record Placed (s : Street) (offsets : List ℕ) : Type 0 where
+  pub count : length offsets ≡ s .signals
+  pub each : (j : ℕ) → j < s .signals → getD offsets j 0 < halves (timedStreet s)
+
+-- an instant on the cycle for each signal, from 0 to H - 1 (01, 'Units and the street')
+pub record OnCycle (s : Street) (ends : List ℕ) : Type 0 where
+  pub each : (j : ℕ) → j < s .signals → getD ends j 0 < halves (timedStreet s)
+
+-- the way of a street whose reds, seen from where a car departs, end at given instants: seen from there every lag is 0 (01, 'Red, departure, band')
+abbrev pub seen : Timed → List ℕ → Way
+seen s ends =
+    record {
+      around = halves s;
+      signals = s .signals;
+      start = λ j. man (halves s) (pos (getD ends j 0) -ℤ pos (2 * s .red j));
+      length = λ j. 2 * s .red j;
+      lag = λ j. 0;
+    }
+
+-- what a red that ends at an instant leaves of the cycle for a stretch from x on, all but the red and the time since it ended (01, 'Red, departure, band')
+abbrev pub leftBy : ℕ → ℕ → ℕ → ℕ → ℕ
+leftBy h x end red = h - (2 * red + man h (pos x -ℤ pos end))
+
+-- the length of the longest stretch from an instant on (01, 'Red, departure, band')
+abbrev pub longestFrom : Way → ℕ → ℕ
+longestFrom w x = greatestUpTo (w .around) (stretch w x)
+
+-- the wider of two bands, and of two as wide the one that starts sooner (01, 'Measuring')
+unfoldable pub widerOf : Band → Band → Band
+widerOf best other =
+    cond (ltb (best .width) (other .width)) other
+    (cond (ltb (other .width) (best .width)) best (cond (ltb (other .start) (best .start)) other best))

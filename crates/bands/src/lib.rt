@@ -1,0 +1,114 @@
+// The measure of given offsets: each direction's width, and the smallest start that attains it (01, 'Measuring').
+mod ends;
+mod stretches;
+
+use street::Code;
+use street::Refusal;
+use street::Street;
+use street::Verdict;
+ghost use mathlib.Core.Path.{_≡_};
+ghost use Prim.Native.Nat.{_≤_};
+ghost use lib.ListN.{length};
+ghost use Rattle.street.specs.Limits.{maxSignals};
+ghost use Rattle.street.specs.Lists.{typed};
+ghost use Rattle.street.specs.Streets.{timedStreet, Sound};
+ghost use Rattle.bands.specs.Search.{Onward, Placed};
+ghost use Rattle.bands.specs.Measure.{offsetCheck, measuredOf, foundOr, measurementOf};
+
+// A direction's band, in halves: its width, and the smallest start that attains it, an instant at signal 1 outbound and at
+// signal n inbound. A width of 0 has start 0.
+pub struct Band {
+    pub width: u32,
+    pub start: u32,
+}
+
+// Both directions' bands under given offsets.
+pub struct Measured {
+    pub outbound: Band,
+    pub inbound: Band,
+}
+
+// A measure, or a numbered refusal.
+pub enum Measurement {
+    Found(Measured),
+    Refused(Refusal),
+}
+
+// The two ways along the street.
+enum Direction {
+    Outbound,
+    Inbound,
+}
+
+// The check of the offsets: a fault where one is not below H.
+fn offset(cycle: u32, offsets: &[u32]) -> Verdict
+    requires { ⌜ (cycle ≤ 6000) × (length (now offsets) ≤ maxSignals) ⌝ }
+    ensures { λ r. ⌜ r ≡ offsetCheck cycle (now (offsets .entry)) ⌝ }
+{
+    let h = 2 * cycle;
+    let mut j: usize = 0;
+    while j < offsets.len() {
+        if h <= offsets[j] {
+            return Verdict::Refused(Refusal {
+                code: Code::Offset,
+                place: (j + 1) as u32,
+            });
+        }
+        j += 1;
+    }
+    Verdict::Passed
+}
+
+// The band of each direction: one search over the red ends, brought back to where that direction departs.
+fn bands(s: Street, offsets: &[u32]) -> Measured
+    requires { ⌜ Sound s × Onward s × Placed s (now offsets) ⌝ }
+    ensures { λ r. ⌜ r ≡ measuredOf (timedStreet s) (now (offsets .entry)) ⌝ }
+{
+    let out = stretches::band(s, ends::ends(s, offsets, Direction::Outbound));
+    let back = stretches::band(s, ends::ends(s, offsets, Direction::Inbound));
+    Measured {
+        outbound: out,
+        inbound: back,
+    }
+}
+
+// The measure on a street whose own checks have passed.
+fn on_street(s: Street, offsets: &[u32]) -> Measurement
+    requires { ⌜ Sound s × Onward s × (length (now offsets) ≡ s .signals) ⌝ }
+    ensures { λ r. ⌜ r ≡ foundOr (offsetCheck (s .cycle) (now (offsets .entry))) (measuredOf (timedStreet s) (now (offsets .entry))) ⌝ }
+{
+    let verdict = offset(s.cycle, offsets);
+    match verdict {
+        Verdict::Refused(f) => Measurement::Refused(f),
+        Verdict::Passed => Measurement::Found(bands(s, offsets)),
+    }
+}
+
+// The measure (01, 'Measuring'), or the first fault of the checks. A list of offsets that is not as long as the reds is a fault of
+// the count, like any other list's, so it is as good to find it first.
+pub fn measure(
+    cycle: u32,
+    reds: &[u32],
+    distances: &[u32],
+    outbound: &[u32],
+    inbound: &[u32],
+    offsets: &[u32],
+) -> Measurement
+    ensures { λ r. ⌜ r ≡ measurementOf (typed cycle (now (reds .entry)) (now (distances .entry)) (now (outbound .entry)) (now (inbound .entry))) (now (offsets .entry)) ⌝ }
+{
+    if offsets.len() != reds.len() {
+        return Measurement::Refused(Refusal {
+            code: Code::Count,
+            place: 0,
+        });
+    }
+    let surveyed = Street::new(cycle, reds, distances, outbound, inbound, reds.len());
+    let verdict = surveyed.verdict;
+    match verdict {
+        Verdict::Refused(f) => Measurement::Refused(f),
+        Verdict::Passed => {
+            let s = surveyed.street;
+            on_street(s, offsets)
+        }
+    }
+}

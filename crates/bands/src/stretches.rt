@@ -1,0 +1,87 @@
+// The longest stretch there is, from the red ends as they are seen where a direction departs. Only red ends need be tried as starts:
+// each is held against every signal, by comparisons and differences alone.
+use crate::Band;
+use street::Street;
+ghost use mathlib.Core.Path.{_≡_};
+ghost use Prim.Native.Nat.{_≤_, _<_};
+ghost use lib.IntN.{pos, _-ℤ_};
+ghost use Rattle.circle.specs.Man.{man};
+ghost use Rattle.circle.specs.Method.{halves};
+ghost use Rattle.street.specs.Streets.{timedStreet, Sound};
+ghost use Rattle.bands.specs.Search.{seen, OnCycle, longestFrom, leftBy, widerOf};
+ghost use Rattle.bands.specs.Measure.{bandOf};
+
+// The time since a red ended, at the instant x. Both lie on the cycle, so a comparison does for the division.
+fn since(h: u32, x: u32, end: u32) -> u32
+    requires { ⌜ (h ≤ 12000) × (x < h) × (end < h) ⌝ }
+    ensures { λ r. ⌜ r ≡ man h (pos x -ℤ pos end) ⌝ }
+{
+    if end <= x {
+        return x - end;
+    }
+    x + h - end
+}
+
+// What a red leaves of the cycle for a stretch from x on.
+fn left(h: u32, x: u32, end: u32, red: u32) -> u32
+    requires { ⌜ (h ≤ 12000) × (x < h) × (end < h) × (red ≤ 6000) ⌝ }
+    ensures { λ r. ⌜ r ≡ leftBy h x end red ⌝ }
+{
+    let gone = 2 * red + since(h, x, end);
+    if h < gone {
+        return 0;
+    }
+    h - gone
+}
+
+// The longest stretch from x: the least that any red leaves.
+fn longest(s: Street, ends: [u32; 32], x: u32) -> u32
+    requires { ⌜ Sound s × OnCycle s ends × (x < halves (timedStreet s)) ⌝ }
+    ensures { λ r. ⌜ r ≡ longestFrom (seen (timedStreet s) ends) x ⌝ }
+{
+    let n = s.signals;
+    let h = 2 * s.cycle;
+    let mut least = h;
+    let mut j: usize = 0;
+    while j < n {
+        let room = left(h, x, ends[j], s.reds[j]);
+        if room < least {
+            least = room;
+        }
+        j += 1;
+    }
+    least
+}
+
+// The wider of two bands, and of two as wide the one that starts sooner.
+fn wider(best: Band, other: Band) -> Band
+    ensures { λ r. ⌜ r ≡ widerOf best other ⌝ }
+{
+    if best.width < other.width {
+        return other;
+    }
+    if other.width < best.width {
+        return best;
+    }
+    if other.start < best.start {
+        return other;
+    }
+    best
+}
+
+// The band: the widest of the stretches from the red ends, the smallest start among equals.
+pub fn band(s: Street, ends: [u32; 32]) -> Band
+    requires { ⌜ Sound s × OnCycle s ends ⌝ }
+    ensures { λ r. ⌜ r ≡ bandOf (seen (timedStreet s) ends) ⌝ }
+{
+    let n = s.signals;
+    let mut best = Band { width: 0, start: 0 };
+    let mut i: usize = 0;
+    while i < n {
+        let start = ends[i];
+        let width = longest(s, ends, start);
+        best = wider(best, Band { width, start });
+        i += 1;
+    }
+    best
+}

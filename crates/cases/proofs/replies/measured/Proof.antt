@@ -1,0 +1,97 @@
+-- `cases::replies::measured` meets its contract: each part that is lent is within its array. Assumes nothing.
+use Prim.Native.Nat.{_-_}
+use mathlib.Core.Path.{sym}
+use native.Mathlib.Omega.{arith}
+use lib.Seq.{length-take-le}
+use borrow.Author.Needs.{needs}
+use Rattle.cases.proofs.replies.measured.Statement.{statement}
+use Rattle.cases.proofs.replies.measured.Tie as tie
+
+sub-links : tie.Need-sub-links
+sub-links c = search needs
+
+array-share-prefix-reds : tie.Need-array-share-prefix-reds
+array-share-prefix-reds c = search needs
+
+slice-aggregate-measure : tie.Need-slice-aggregate-measure
+slice-aggregate-measure c = sym (length-take-le (c .before .before .before .before .before .args .s .signals) (c .before .before .before .before .before .args .s .reds) (omega (arith, c .before .before .before .before .before .pre .0 .few, c .before .before .before .before .before .pre .0 .reds)))
+
+array-share-prefix-distances : tie.Need-array-share-prefix-distances
+array-share-prefix-distances c = search needs
+
+slice-aggregate-measure-2 : tie.Need-slice-aggregate-measure-2
+slice-aggregate-measure-2 c = sym (length-take-le (c .before .before .before .before .before .before .args .s .signals) (c .before .before .before .before .before .before .args .s .distances) (omega (arith, c .before .before .before .before .before .before .pre .0 .few, c .before .before .before .before .before .before .pre .0 .distances)))
+
+array-share-prefix-outbound : tie.Need-array-share-prefix-outbound
+array-share-prefix-outbound c = search needs
+
+slice-aggregate-measure-3 : tie.Need-slice-aggregate-measure-3
+slice-aggregate-measure-3 c = sym (length-take-le (c .before .before .before .before .before .before .before .args .s .signals - 1) (c .before .before .before .before .before .before .before .args .s .outbound) (omega (arith, c .before .before .before .before .before .before .before .pre .0 .few, c .before .before .before .before .before .before .before .pre .0 .outbound)))
+
+array-share-prefix-inbound : tie.Need-array-share-prefix-inbound
+array-share-prefix-inbound c = search needs
+
+slice-aggregate-measure-4 : tie.Need-slice-aggregate-measure-4
+slice-aggregate-measure-4 c = sym (length-take-le (c .before .before .before .before .before .before .before .before .args .s .signals - 1) (c .before .before .before .before .before .before .before .before .args .s .inbound) (omega (arith, c .before .before .before .before .before .before .before .before .pre .0 .few, c .before .before .before .before .before .before .before .before .pre .0 .inbound)))
+
+array-share-prefix-offsets : tie.Need-array-share-prefix-offsets
+array-share-prefix-offsets c = search needs
+
+slice-aggregate-measure-5 : tie.Need-slice-aggregate-measure-5
+slice-aggregate-measure-5 c = sym (length-take-le (c .before .before .before .before .before .before .before .before .before .args .count) (c .before .before .before .before .before .before .before .before .before .args .t3) (omega (arith, c .before .before .before .before .before .before .before .before .before .pre .1, c .before .before .before .before .before .before .before .before .before .pre .2)))
+
+measure-requires : tie.Need-measure-requires
+measure-requires c κs = search needs
+
+enum-known-found : tie.Need-enum-known-found
+enum-known-found c = search needs
+
+show-refusal-requires : tie.Need-show-refusal-requires
+show-refusal-requires c κs = search needs
+
+enum-known-found-2 : tie.Need-enum-known-found-2
+enum-known-found-2 c = search needs
+
+slice-aggregate-show-band : tie.Need-slice-aggregate-show-band
+slice-aggregate-show-band c = search needs
+
+show-band-requires : tie.Need-show-band-requires
+show-band-requires c κs = search needs
+
+slice-aggregate-show-band-2 : tie.Need-slice-aggregate-show-band-2
+slice-aggregate-show-band-2 c = search needs
+
+show-band-requires-2 : tie.Need-show-band-requires-2
+show-band-requires-2 c κs = search needs
+
+returns : tie.Need-returns
+returns c = search needs
+
+returns-2 : tie.Need-returns-2
+returns-2 c = search needs
+
+pub measured-spec : {M : Type 1} → statement M
+measured-spec =
+    tie.close
+    (tie.spec
+    sub-links
+    array-share-prefix-reds
+    slice-aggregate-measure
+    array-share-prefix-distances
+    slice-aggregate-measure-2
+    array-share-prefix-outbound
+    slice-aggregate-measure-3
+    array-share-prefix-inbound
+    slice-aggregate-measure-4
+    array-share-prefix-offsets
+    slice-aggregate-measure-5
+    measure-requires
+    enum-known-found
+    show-refusal-requires
+    enum-known-found-2
+    slice-aggregate-show-band
+    show-band-requires
+    slice-aggregate-show-band-2
+    show-band-requires-2
+    returns
+    returns-2)

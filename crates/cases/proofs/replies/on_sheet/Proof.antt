@@ -1,0 +1,38 @@
+-- `cases::replies::on_sheet` meets its contract: an accepted sheet's arrays are whole. Assumes nothing.
+use borrow.Author.Needs.{needs}
+use Rattle.printed.proofs.Ways.{reading-held}
+use Rattle.cases.proofs.replies.on_sheet.Statement.{statement}
+use Rattle.cases.proofs.replies.on_sheet.Tie as tie
+
+read-requires : tie.Need-read-requires
+read-requires c κs = search needs
+
+enum-known-verdict : tie.Need-enum-known-verdict
+enum-known-verdict c = search needs
+
+show-refusal-requires : tie.Need-show-refusal-requires
+show-refusal-requires c κs = search needs
+
+enum-told : tie.Need-enum-told
+enum-told c = search needs
+
+measured-requires : tie.Need-measured-requires
+measured-requires c κs = (reading-held (c .before .before .before .before .before .args .bytes .now) (c .before .before .before .read .result) (c .before .before .before .read .ensures) (c .before .enum-told .given .1), c .before .before .before .before .before .pre .0, c .before .before .before .before .before .pre .1)
+
+returns : tie.Need-returns
+returns c = search needs
+
+returns-2 : tie.Need-returns-2
+returns-2 c = search needs
+
+pub on-sheet-spec : {M : Type 1} → statement M
+on-sheet-spec =
+    tie.close
+    (tie.spec
+    read-requires
+    enum-known-verdict
+    show-refusal-requires
+    enum-told
+    measured-requires
+    returns
+    returns-2)

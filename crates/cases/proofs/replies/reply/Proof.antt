@@ -1,0 +1,82 @@
+-- `cases::replies::reply` meets its contract: the sheet starts within the case, and the printed text lies within its buffer. Assumes nothing.
+use borrow.Author.Needs.{needs}
+use Rattle.printed.proofs.Ways.{text-within}
+use Rattle.cases.proofs.replies.reply.Statement.{statement}
+use Rattle.cases.proofs.replies.reply.Tie as tie
+
+request-requires : tie.Need-request-requires
+request-requires c κs = search needs
+
+enum-told : tie.Need-enum-told
+enum-told c = search needs
+
+slice-aggregate-write-all : tie.Need-slice-aggregate-write-all
+slice-aggregate-write-all c = search needs
+
+write-all-requires : tie.Need-write-all-requires
+write-all-requires c κs = search needs
+
+enum-told-2 : tie.Need-enum-told-2
+enum-told-2 c = search needs
+
+sub-equal-text : tie.Need-sub-equal-text
+sub-equal-text c = search needs
+
+part-equal-text-start : tie.Need-part-equal-text-start
+part-equal-text-start c = search needs
+
+part-equal-text-end : tie.Need-part-equal-text-end
+part-equal-text-end c = search needs
+
+equal-text-requires : tie.Need-equal-text-requires
+equal-text-requires c κs = search needs
+
+show-requires : tie.Need-show-requires
+show-requires c κs = text-within (c .equal-text .ensures)
+
+enum-told-3 : tie.Need-enum-told-3
+enum-told-3 c = search needs
+
+sub-on-sheet : tie.Need-sub-on-sheet
+sub-on-sheet c = search needs
+
+part-on-sheet-start : tie.Need-part-on-sheet-start
+part-on-sheet-start c = search needs
+
+part-on-sheet-end : tie.Need-part-on-sheet-end
+part-on-sheet-end c = search needs
+
+on-sheet-requires : tie.Need-on-sheet-requires
+on-sheet-requires c κs = search needs
+
+slice-aggregate-write-all-2 : tie.Need-slice-aggregate-write-all-2
+slice-aggregate-write-all-2 c = search needs
+
+write-all-requires-2 : tie.Need-write-all-requires-2
+write-all-requires-2 c κs = search needs
+
+returns : tie.Need-returns
+returns c = search needs
+
+pub reply-spec : {M : Type 1} → statement M
+reply-spec =
+    tie.close
+    (tie.spec
+    request-requires
+    enum-told
+    slice-aggregate-write-all
+    write-all-requires
+    enum-told-2
+    sub-equal-text
+    part-equal-text-start
+    part-equal-text-end
+    equal-text-requires
+    show-requires
+    enum-told-3
+    sub-on-sheet
+    part-on-sheet-start
+    part-on-sheet-end
+    on-sheet-requires
+    slice-aggregate-write-all-2
+    write-all-requires-2
+    returns)

@@ -1,0 +1,23 @@
+-- `cases::replies::show` meets its contract: the text is a part of its buffer. Assumes nothing.
+use mathlib.Core.Path.{sym}
+use lib.Seq.{length-take-le}
+use borrow.Author.Needs.{needs}
+use Rattle.cases.proofs.replies.show.Statement.{statement}
+use Rattle.cases.proofs.replies.show.Tie as tie
+
+array-share-prefix-bytes : tie.Need-array-share-prefix-bytes
+array-share-prefix-bytes c = search needs
+
+slice-aggregate-write-all : tie.Need-slice-aggregate-write-all
+slice-aggregate-write-all c = sym (length-take-le (c .before .before .args .text .count) (c .before .before .args .text .bytes) (c .before .before .pre))
+
+write-all-requires : tie.Need-write-all-requires
+write-all-requires c κs = search needs
+
+returns : tie.Need-returns
+returns c = search needs
+
+pub show-spec : {M : Type 1} → statement M
+show-spec =
+    tie.close
+    (tie.spec array-share-prefix-bytes slice-aggregate-write-all write-all-requires returns)

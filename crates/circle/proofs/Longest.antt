@@ -1,0 +1,211 @@
+-- The longest stretch there is, found from the red ends. From one instant, the longest stretch is the least that any red leaves of the cycle. A stretch that starts some time
+-- after every red ended can start that much sooner and last that much longer; so, where some signal has a red, a stretch of the greatest width starts as a red ends, and
+-- the red ends, brought back to the departure signal, are all the starts that need be tried. Assumes nothing.
+use Prim.Native.Nat.{ℕ, zero, suc, _+_, _-_, _≤_, _<_}
+use mathlib.Core.Path.{_≡_, refl, ap}
+use mathlib.Core.Bool.{cond}
+use mathlib.Core.Logic.{_⊎_, inl, inr, ⊎-elim}
+use native.Mathlib.Omega.{arith}
+use native.Mathlib.Decide.{decLt, decLe}
+use native.Mathlib.Nat.{eq-or-lt-of-le, le-of-suc-le-suc}
+use lib.IntN.{pos, _-ℤ_}
+use lib.Dec.{ltb}
+use borrow.Author.Tests.{lt-ltb, le-ltb}
+use Rattle.circle.specs.Man.{man}
+use Rattle.circle.specs.Bands.{Way, greatestUpTo, stretch, width}
+use Rattle.circle.proofs.Man.{man-lt, man-is, man-turns}
+use Rattle.circle.proofs.Over.{minBelow, min-le}
+use Rattle.circle.proofs.Arcs.{since, Passes}
+use Rattle.circle.proofs.Tests.{greatest-le, greatest-passes, greatest-ge, greatest-is}
+use Rattle.circle.proofs.Stretches.{Proper, passes-stretch, stretch-passes, width-ge}
+
+-- the length of the longest stretch from an instant
+abbrev pub longest : Way → ℕ → ℕ
+longest w x = greatestUpTo (w .around) (stretch w x)
+
+-- how much of the cycle a signal leaves a stretch from the instant x: what is neither its red nor gone since its red ended, and all of it where it has no red
+abbrev pub left : Way → ℕ → ℕ → ℕ
+left w x j = cond (ltb 0 (w .length j)) (w .around - (w .length j + since w x j)) (w .around)
+
+-- the least of some numbers is at most each of them, and at least whatever is at most each
+min-each : (top n : ℕ) (g : ℕ → ℕ) (j : ℕ) → j < n → minBelow top n g ≤ g j
+unfolding minBelow
+min-each top zero g j l = absurd (omega arith)
+min-each top (suc n) g j l =
+    ⊎-elim
+    (λ s. let here : g j ≡ g n = ap g s in omega arith)
+    (λ m. let below = min-each top n g j m in omega arith)
+    (eq-or-lt-of-le (le-of-suc-le-suc l))
+
+le-min : (top n : ℕ) (g : ℕ → ℕ) (k : ℕ) → k ≤ top → ((j : ℕ) → j < n → k ≤ g j) → k ≤ minBelow top n g
+unfolding minBelow
+le-min top zero g k l each = l
+le-min top (suc n) g k l each =
+    let below = le-min top n g k l (λ j m. each j (omega arith)) in
+    let here = each n (omega arith) in
+    omega arith
+
+left-passes : (w : Way) (x k : ℕ) → 1 ≤ k → ((j : ℕ) → j < w .signals → k ≤ left w x j) → Passes w x k
+left-passes w x k one each =
+    record {
+      each =
+          λ j lj red.
+          let is : left w x j ≡ w .around - (w .length j + since w x j) =
+          ap (λ t. cond t (w .around - (w .length j + since w x j)) (w .around)) (lt-ltb 0 (w .length j) red) in
+          omega (arith, is, each j lj);
+    }
+
+passes-left : (w : Way) (x k : ℕ) → k ≤ w .around → Passes w x k → (j : ℕ) → j < w .signals → k ≤ left w x j
+passes-left w x k l p j lj = go (decLt 0 (w .length j))
+  where
+    go : Dec (0 < w .length j) → k ≤ left w x j
+    go (yes red) =
+        let is : left w x j ≡ w .around - (w .length j + since w x j) =
+        ap (λ t. cond t (w .around - (w .length j + since w x j)) (w .around)) (lt-ltb 0 (w .length j) red) in
+        omega (arith, is, p .each j lj red)
+    go (no none) =
+        let rest : w .length j ≤ 0 = omega arith in
+        let is : left w x j ≡ w .around =
+        ap (λ t. cond t (w .around - (w .length j + since w x j)) (w .around)) (le-ltb 0 (w .length j) rest) in
+        omega (arith, is)
+
+-- the longest stretch from an instant is the least that any signal leaves
+pub longest-least : (w : Way) → Proper w → (x : ℕ) → longest w x ≡ minBelow (w .around) (w .signals) (left w x)
+longest-least w proper x =
+    let v = minBelow (w .around) (w .signals) (left w x) in
+    greatest-is (w .around) (stretch w x) v (min-le (w .around) (w .signals) (left w x))
+    (λ one. passes-stretch w x v (left-passes w x v one (λ j lj. min-each (w .around) (w .signals) (left w x) j lj)))
+    (λ k one l e. le-min (w .around) (w .signals) (left w x) k l (passes-left w x k l (stretch-passes w proper x k one e)))
+
+pub longest-passes : (w : Way) → Proper w → (x : ℕ) → 1 ≤ longest w x → Passes w x (longest w x)
+longest-passes w proper x one =
+    stretch-passes w proper x (longest w x) one (greatest-passes (w .around) (stretch w x) one)
+
+pub longest-ge : (w : Way) (x k : ℕ) → k ≤ w .around → Passes w x k → k ≤ longest w x
+longest-ge w x k l p = greatest-ge (w .around) (stretch w x) k l (passes-stretch w x k p)
+
+-- no stretch is longer than the band
+pub longest-width : (w : Way) → Proper w → (x : ℕ) → longest w x ≤ width w
+longest-width w proper x = go (longest w x) refl
+  where
+    go : (v : ℕ) → longest w x ≡ v → longest w x ≤ width w
+    go zero e = omega arith
+    go (suc v) e =
+        let one : 1 ≤ longest w x = omega arith in
+        width-ge w proper x (longest w x) one (greatest-le (w .around) (stretch w x)) (longest-passes w proper x one)
+
+-- a stretch that starts at least d after every red ended may start d sooner
+pub passes-sooner : (w : Way) → Proper w → (x k d : ℕ) → d ≤ w .around → ((j : ℕ) → j < w .signals → 0 < w .length j → d ≤ since w x j) → Passes w x k → Passes w (x + (w .around - d)) (k + d)
+passes-sooner w proper x k d l later p =
+    record {
+      each =
+          λ j lj red.
+          let end = w .start j + w .length j in
+          let c = man-turns (w .around) (x + w .lag j) end (proper .turns) in
+          let small : since w x j < w .around = man-lt (w .around) (pos (x + w .lag j) -ℤ pos end) (proper .turns) in
+          let enough : d ≤ since w x j = later j lj red in
+          let is : since w (x + (w .around - d)) j ≡ since w x j - d =
+          man-is (w .around) (x + (w .around - d) + w .lag j) end (since w x j - d) (omega arith)
+          (record { p = 1 + c .p; q = c .q; eq = omega (arith, c .eq) }) in
+          omega (arith, is, p .each j lj red);
+    }
+
+-- a signal below n with a red, none of which ended later
+record Soonest (w : Way) (x n : ℕ) : Type 0 where
+  signal : ℕ
+  below : signal < n
+  red : 0 < w .length signal
+  least : (j : ℕ) → j < n → 0 < w .length j → since w x signal ≤ since w x j
+
+order : (a b : ℕ) → (a ≤ b) ⊎ (b < a)
+order a b = pick (decLe a b)
+  where
+    pick : Dec (a ≤ b) → (a ≤ b) ⊎ (b < a)
+    pick (yes h) = inl h
+    pick (no n) = inr (omega arith)
+
+soonest-or : (w : Way) (x n : ℕ) → Soonest w x n ⊎ ((j : ℕ) → j < n → 0 < w .length j → ⊥)
+soonest-or w x zero = inr (λ j l red. omega arith)
+soonest-or w x (suc n) = go (soonest-or w x n) (decLt 0 (w .length n))
+  where
+    new : 0 < w .length n → ((j : ℕ) → j < n → 0 < w .length j → since w x n ≤ since w x j) → Soonest w x (suc n)
+    new red least =
+        record {
+          signal = n;
+          below = omega arith;
+          red = red;
+          least =
+              λ j l r.
+              ⊎-elim (λ s. omega (arith, ap (since w x) s)) (λ m. least j m r) (eq-or-lt-of-le (le-of-suc-le-suc l));
+        }
+
+    old : (s : Soonest w x n) → (0 < w .length n → since w x (s .signal) ≤ since w x n) → Soonest w x (suc n)
+    old s here =
+        record {
+          signal = s .signal;
+          below = omega (arith, s .below);
+          red = s .red;
+          least =
+              λ j l r.
+              ⊎-elim
+              (λ e. omega (arith, ap (since w x) e, here (omega (arith, ap (w .length) e))))
+              (λ m. s .least j m r)
+              (eq-or-lt-of-le (le-of-suc-le-suc l));
+        }
+
+    go : Soonest w x n ⊎ ((j : ℕ) → j < n → 0 < w .length j → ⊥) → Dec (0 < w .length n) → Soonest w x (suc n) ⊎ ((j : ℕ) → j < suc n → 0 < w .length j → ⊥)
+    go (inr none) (yes red) = inl (new red (λ j m r. absurd (none j m r)))
+    go (inr none) (no dark) =
+        inr
+        (λ j l r.
+        ⊎-elim (λ s. dark (omega (arith, ap (w .length) s))) (λ m. none j m r) (eq-or-lt-of-le (le-of-suc-le-suc l)))
+    go (inl s) (no dark) = inl (old s (λ r. absurd (dark r)))
+    go (inl s) (yes red) =
+        ⊎-elim
+        (λ le. inl (old s (λ r. le)))
+        (λ lt. inl (new red (λ j m r. omega (arith, s .least j m r))))
+        (order (since w x (s .signal)) (since w x n))
+
+-- a signal with a red that ends as the departure at x comes by
+pub record Ending (w : Way) (x : ℕ) : Type 0 where
+  pub signal : ℕ
+  pub below : signal < w .signals
+  pub red : 0 < w .length signal
+  pub ends : since w x signal ≡ 0
+
+-- where some signal has a red, a stretch of the greatest width starts as a red ends
+pub starts-ending : (w : Way) → Proper w → (j : ℕ) → j < w .signals → 0 < w .length j → (x : ℕ) → 1 ≤ width w → Passes w x (width w) → Ending w x
+starts-ending w proper j lj red x one p = go (soonest-or w x (w .signals))
+  where
+    go : Soonest w x (w .signals) ⊎ ((i : ℕ) → i < w .signals → 0 < w .length i → ⊥) → Ending w x
+    go (inr none) = absurd (none j lj red)
+    go (inl s) =
+        let d = since w x (s .signal) in
+        let fits : d + width w + w .length (s .signal) ≤ w .around = p .each (s .signal) (s .below) (s .red) in
+        let sooner = passes-sooner w proper x (width w) d (omega arith) (s .least) p in
+        let most = width-ge w proper (x + (w .around - d)) (width w + d) (omega arith) (omega arith) sooner in
+        record { signal = s .signal; below = s .below; red = s .red; ends = omega arith }
+
+-- the instant at the departure signal that comes to signal i as its red ends
+abbrev pub endAt : Way → ℕ → ℕ
+endAt w i = man (w .around) (pos (w .start i + w .length i) -ℤ pos (w .lag i))
+
+pub end-lt : (w : Way) → Proper w → (i : ℕ) → endAt w i < w .around
+end-lt w proper i = man-lt (w .around) (pos (w .start i + w .length i) -ℤ pos (w .lag i)) (proper .turns)
+
+-- and the only one on the cycle
+pub end-is : (w : Way) → Proper w → (x i : ℕ) → x < w .around → since w x i ≡ 0 → endAt w i ≡ x
+end-is w proper x i l none =
+    let c = man-turns (w .around) (x + w .lag i) (w .start i + w .length i) (proper .turns) in
+    man-is (w .around) (w .start i + w .length i) (w .lag i) x l
+    (record { p = c .q; q = c .p; eq = omega (arith, c .eq, none) })
+
+-- the time since a red ended is the way round from that instant
+pub since-end : (w : Way) → Proper w → (x i : ℕ) → since w x i ≡ man (w .around) (pos x -ℤ pos (endAt w i))
+since-end w proper x i =
+    let M = w .around in
+    let c = man-turns M (w .start i + w .length i) (w .lag i) (proper .turns) in
+    let d = man-turns M x (endAt w i) (proper .turns) in
+    man-is M (x + w .lag i) (w .start i + w .length i) (man M (pos x -ℤ pos (endAt w i)))
+    (man-lt M (pos x -ℤ pos (endAt w i)) (proper .turns))
+    (record { p = d .p + c .q; q = d .q + c .p; eq = omega (arith, c .eq, d .eq) })

@@ -1,0 +1,212 @@
+-- A request to move width, in plain numbers. Raised by the cycle B is a natural, and g is one as it stands; so a width in range is 1 or more, reaches B and leaves room for
+-- each signal's red, and the lowerings and what is left for the other direction are truncated differences. A signal never leaves less than B beside its red, so B is at
+-- most g; the reference's own u is the cycle, so an inbound request leaves it in place and an outbound one lowers it by w - B. Assumes nothing.
+use Prim.Native.Nat.{ℕ, zero, suc, _+_, _-_, _*_, _≤_, _<_, max}
+use mathlib.Core.Path.{_≡_, refl, sym, ap, ap₂, _∙_}
+use mathlib.Core.Bool.{Bool, true, false, cond}
+use mathlib.Core.Logic.{⊎-elim}
+use native.Mathlib.Omega.{arith}
+use native.Mathlib.Nat.{eq-or-lt-of-le, le-of-suc-le-suc}
+use lib.IntN.{pos, subℕ, _+ℤ_, _-ℤ_}
+use lib.Dec.{leb}
+use borrow.Author.Tests.{le-leb, leb-true}
+use Rattle.circle.specs.Signed.{leℤ, maxℤ, orZero}
+use Rattle.circle.specs.Method.{Timed, halves, B, reference, phase, offset}
+use Rattle.circle.specs.Moved.{g, inRange, chosen, outboundLowering, inboundLowering, lowered, otherWidth}
+use Rattle.circle.proofs.Signed.{sub-eq, pos-sub, pos-minus, add-sub, minus-sub, le-sub, max-sub, orZero-sub}
+use Rattle.circle.proofs.Man.{Turns, man-turns}
+use Rattle.circle.proofs.Over.{minBelow, maxBelow, max-ge, least-raised}
+use Rattle.circle.proofs.Method.{u-is, u-range}
+use Rattle.circle.proofs.Raised.{Fit, larger-raised, b⁺, B-raised, low}
+use Rattle.circle.proofs.Reference.{reference-first, u-turns, leaves, phase-own}
+
+-- B, raised by the cycle
+abbrev pub B⁺ : Timed → ℕ
+B⁺ s = maxBelow (s .signals) (b⁺ s)
+
+-- g: the shortest green
+abbrev pub green : Timed → ℕ
+green s = minBelow (halves s) (s .signals) (λ j. halves s - 2 * s .red j)
+
+-- a width in range
+pub record Asked (s : Timed) (w : ℕ) : Type 0 where
+  pub some : 1 ≤ w
+  pub reaches : B⁺ s ≤ w + halves s
+  pub fits : (j : ℕ) → j < s .signals → w + 2 * s .red j ≤ halves s
+
+-- a number is at most the least of several where it is at most each of them, and only there
+least-of : (w top n : ℕ) (f : ℕ → ℕ) → w ≤ top → ((j : ℕ) → j < n → w ≤ f j) → w ≤ minBelow top n f
+unfolding minBelow
+least-of w top zero f l each = l
+least-of w top (suc n) f l each =
+    let before = least-of w top n f l (λ j h. each j (omega arith)) in
+    let last = each n (omega arith) in
+    omega arith
+
+least-at : (w top n : ℕ) (f : ℕ → ℕ) → w ≤ minBelow top n f → (j : ℕ) → j < n → w ≤ f j
+unfolding minBelow
+least-at w top zero f l j h = absurd (omega arith)
+least-at w top (suc n) f l j h =
+    ⊎-elim
+    (λ e. let here : f j ≡ f n = ap f e in omega arith)
+    (λ m. least-at w top n f (omega arith) j m)
+    (eq-or-lt-of-le (le-of-suc-le-suc h))
+
+-- a natural, raised by h
+pub raise : (a h : ℕ) → pos a ≡ subℕ (a + h) h
+raise a h = pos-sub a ∙ sub-eq a 0 (a + h) h (omega arith)
+
+-- two tests in a row
+both : (p q : Bool) → cond p q false ≡ true → (p ≡ true) × (q ≡ true)
+both true q e = (refl, e)
+both false q e = (e, cc)
+
+module _ (s : Timed) (fit : Fit s) where
+  around : 0 < 2 * s .cycle
+  around = omega (arith, fit .turns)
+
+  -- the chosen u: in 1 to H, never less than B beside the signal's red, and H at the reference
+  pub chosen-range : (j : ℕ) → (1 ≤ chosen s j) × (chosen s j ≤ halves s)
+  unfolding chosen
+  chosen-range j = u-range s (reference s) j (phase s (reference s) j) (fit .turns)
+
+  pub chosen-leaves : (j : ℕ) → j < s .signals → B⁺ s + 2 * s .red j ≤ chosen s j + halves s
+  unfolding chosen
+  chosen-leaves = leaves s fit
+
+  pub chosen-turns : (j : ℕ) → Turns (halves s) (halves s - chosen s j + (s .red j + s .outbound (reference s) + s .inbound (reference s) + phase s (reference s) j)) (s .red (reference s) + s .outbound j + s .inbound j)
+  unfolding chosen
+  chosen-turns j = u-turns s (reference s) j (phase s (reference s) j) around
+
+  pub chosen-own : chosen s (reference s) ≡ halves s
+  unfolding chosen
+  chosen-own =
+      let c = reference s in
+      let own = phase-own s fit c (reference-first s fit .below) in
+      let touches = u-is s c c (phase s c c) 0 around (record { p = 0; q = 0; eq = omega arith }) in
+      omega (arith, touches)
+
+  -- g is at least what fits beside each red
+  green-from : (w : ℕ) → ((j : ℕ) → j < s .signals → w + 2 * s .red j ≤ halves s) → w ≤ green s
+  green-from w fits =
+      least-of w (halves s) (s .signals) (λ j. halves s - 2 * s .red j) (omega (arith, fits 0 (fit .some))) (λ j l. omega (arith, fits j l))
+
+  pub green-some : 1 ≤ green s
+  green-some = green-from 1 (λ j l. omega (arith, fit .goes j l))
+
+  -- B is at most g
+  pub B-fits : (j : ℕ) → j < s .signals → B⁺ s + 2 * s .red j ≤ 2 * halves s
+  B-fits j l = omega (arith, chosen-leaves j l, chosen-range j)
+
+  pub B-green : B⁺ s ≤ green s + halves s
+  B-green =
+      let l = green-from (B⁺ s - halves s) (λ j l. omega (arith, B-fits j l, low s fit j l)) in
+      omega arith
+
+  pub g-is : g s ≡ pos (green s)
+  unfolding g
+  g-is =
+      least-raised 0 (halves s) (s .signals)
+      (λ j. pos (halves s) -ℤ pos (2 * s .red j))
+      (λ j. halves s - 2 * s .red j)
+      (fit .some)
+      (λ j l. omega arith)
+      (λ j l.
+      pos-minus (halves s) (2 * s .red j)
+      ∙ sub-eq (halves s) (2 * s .red j) (halves s - 2 * s .red j) 0 (omega (arith, low s fit j l)))
+      ∙ sym (pos-sub (green s))
+
+  -- the test of a request
+  tested : (w : ℕ) → inRange s w ≡ cond (leb (max (1 + halves s) (B⁺ s)) (w + halves s)) (leb w (green s)) false
+  unfolding inRange
+  tested w =
+      let H = halves s in
+      ap₂ (λ p q. cond p q false)
+      (ap₂ leℤ (ap₂ maxℤ (raise 1 H) (B-raised s fit) ∙ max-sub (1 + H) (B⁺ s) H) (raise w H)
+      ∙ le-sub (max (1 + H) (B⁺ s)) (w + H) H)
+      (ap (leℤ (pos w)) g-is)
+
+  pub asked : (w : ℕ) → inRange s w ≡ true → Asked s w
+  asked w e =
+      let (p, q) = both (leb (max (1 + halves s) (B⁺ s)) (w + halves s)) (leb w (green s)) (sym (tested w) ∙ e) in
+      let l = leb-true (max (1 + halves s) (B⁺ s)) (w + halves s) p in
+      let m = leb-true w (green s) q in
+      record {
+        some = omega arith;
+        reaches = omega arith;
+        fits = λ j h. let beside = least-at w (halves s) (s .signals) (λ k. halves s - 2 * s .red k) m j h in omega (arith, low s fit j h);
+      }
+
+  pub within : (w : ℕ) → 1 ≤ w → B⁺ s ≤ w + halves s → w ≤ green s → inRange s w ≡ true
+  within w some reaches fits =
+      let l : max (1 + halves s) (B⁺ s) ≤ w + halves s = omega arith in
+      tested w ∙ ap₂ (λ p q. cond p q false) (le-leb (max (1 + halves s) (B⁺ s)) (w + halves s) l) (le-leb w (green s) fits)
+
+  pub granted : (w : ℕ) → Asked s w → inRange s w ≡ true
+  granted w a = within w (a .some) (a .reaches) (green-from w (a .fits))
+
+  -- the lowerings and the other direction's width
+  pub outbound-lowering : (w j : ℕ) → outboundLowering s w j ≡ chosen s j + w - B⁺ s
+  unfolding outboundLowering
+  outbound-lowering w j =
+      let H = halves s in
+      let u = chosen s j in
+      ap orZero
+      (ap₂ (λ x y. x +ℤ y -ℤ B s) (pos-minus u H) (pos-sub w)
+      ∙ ap₂ (λ x y. x -ℤ y) (add-sub u H w 0) (B-raised s fit)
+      ∙ minus-sub (u + w) (H + 0) (B⁺ s) H
+      ∙ sub-eq (u + w + H) (H + 0 + B⁺ s) (u + w) (B⁺ s) (omega arith))
+      ∙ orZero-sub (u + w) (B⁺ s)
+
+  pub inbound-lowering : (w j : ℕ) → inboundLowering s w j ≡ w + 2 * s .red j - chosen s j
+  unfolding inboundLowering
+  inbound-lowering w j =
+      ap orZero (pos-minus (w + 2 * s .red j) (chosen s j)) ∙ orZero-sub (w + 2 * s .red j) (chosen s j)
+
+  pub double : B s +ℤ B s ≡ subℕ (2 * B⁺ s) (2 * halves s)
+  double =
+      let H = halves s in
+      let Bp = B⁺ s in
+      ap₂ _+ℤ_ (B-raised s fit) (B-raised s fit)
+      ∙ add-sub Bp H Bp H
+      ∙ sub-eq (Bp + Bp) (H + H) (2 * Bp) (2 * H) (omega arith)
+
+  pub other-width : (w : ℕ) → otherWidth s w ≡ 2 * B⁺ s - (2 * halves s + w)
+  unfolding otherWidth
+  other-width w =
+      let H = halves s in
+      let Bp = B⁺ s in
+      ap orZero
+      (ap₂ (λ x y. x -ℤ y) double (pos-sub w)
+      ∙ minus-sub (2 * Bp) (2 * H) w 0
+      ∙ sub-eq (2 * Bp + 0) (2 * H + w) (2 * Bp) (2 * H + w) (omega arith))
+      ∙ orZero-sub (2 * Bp) (2 * H + w)
+
+  -- an offset and its lowering make up the equal plan's offset
+  pub lowered-turns : (δ : ℕ → ℕ) (j : ℕ) → Turns (halves s) (lowered s δ j + δ j) (offset s (reference s) j)
+  unfolding lowered
+  lowered-turns δ j = man-turns (halves s) (offset s (reference s) j) (δ j) around
+
+  module _ (w : ℕ) (a : Asked s w) where
+    -- B is above w less a cycle
+    above : w < B⁺ s
+    unfolding b⁺
+    above =
+        let some = fit .some in
+        let least = least-of (w + 1) (4 * s .cycle) (s .signals) (larger-raised s 0) (omega (arith, a .fits 0 some)) (λ j l. omega (arith, a .fits j l, u-range s 0 j 0 (fit .turns))) in
+        omega (arith, max-ge (s .signals) (b⁺ s) 0 some)
+
+    -- a lowering is less than a cycle
+    pub outbound-lowering-lt : (j : ℕ) → outboundLowering s w j < halves s
+    outbound-lowering-lt j = omega (arith, outbound-lowering w j, above, chosen-range j, around)
+
+    pub inbound-lowering-lt : (j : ℕ) → j < s .signals → inboundLowering s w j < halves s
+    inbound-lowering-lt j l = omega (arith, inbound-lowering w j, a .fits j l, chosen-range j, around)
+
+    -- the reference's own
+    pub outbound-lowering-own : outboundLowering s w (reference s) + B⁺ s ≡ w + halves s
+    outbound-lowering-own = omega (arith, outbound-lowering w (reference s), chosen-own, a .reaches)
+
+    pub inbound-lowering-own : inboundLowering s w (reference s) ≡ 0
+    inbound-lowering-own =
+        omega (arith, inbound-lowering w (reference s), chosen-own, a .fits (reference s) (reference-first s fit .below))

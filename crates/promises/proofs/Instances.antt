@@ -1,0 +1,43 @@
+-- Document 01's rows 2 and 3 and its street A as instances of the promises: the bands that are there under the plan's offsets are as wide as the row says. The checks pass and the
+-- reported width is the row's, by computation; that it is the measured width is the theorem. Assumes nothing.
+use Prim.Native.Nat.{ℕ}
+use mathlib.Core.Path.{_≡_, refl, _∙_}
+use mathlib.Core.List.{List, [], _∷_}
+use Rattle.circle.specs.Over.{firstBelow, sumBelow, leastBelow, greatestBelow}
+use Rattle.circle.specs.Method.{u, pairWidth, b, B, equalWidth}
+use Rattle.circle.specs.Bands.{width, outboundWay, inboundWay}
+use Rattle.street.specs.Lists.{Lists}
+use Rattle.street.specs.Checks.{countCheck, roomCheck, cycleCheck, redCheck, distanceCheck, speedCheck, planChecks}
+use Rattle.street.specs.Times.{timed}
+use Rattle.street.specs.declared.Verdict.the-variants.{Passed}
+use Rattle.plans.specs.Equal.{equalOffset}
+use Rattle.promises.proofs.Rounded.{measured}
+
+-- two signals with equal reds and one link, driven at 1,000 mm/s both ways
+pair : ℕ → ℕ → ℕ → Lists
+pair cycle red length =
+    record {
+      cycle = cycle;
+      reds = red ∷ red ∷ [];
+      distances = 0 ∷ length ∷ [];
+      outbound = 1000 ∷ [];
+      inbound = 1000 ∷ [];
+    }
+
+street-a : Lists
+street-a =
+    record { cycle = 100; reds = 40 ∷ 50 ∷ []; distances = 0 ∷ 30000 ∷ []; outbound = 10000 ∷ []; inbound = 15000 ∷ [] }
+
+-- both bands of a street's equal plan have a width
+BothWide : Lists → ℕ → Type 0
+BothWide l v =
+    (width (outboundWay (timed l) (equalOffset (timed l))) ≡ v) × (width (inboundWay (timed l) (equalOffset (timed l))) ≡ v)
+
+from-measured : (l : Lists) (v : ℕ) → planChecks l 32 ≡ Passed → equalWidth (timed l) ≡ v → BothWide l v
+unfolding BothWide
+from-measured l v passed e = let m = measured l 32 passed in (m .0 ∙ e, m .1 ∙ e)
+
+instances : BothWide (pair 600 300 30000) 600 × BothWide (pair 600 300 15000) 300 × BothWide street-a 60
+unfolding pair street-a firstBelow sumBelow leastBelow greatestBelow u pairWidth b B equalWidth countCheck roomCheck cycleCheck redCheck distanceCheck speedCheck planChecks
+instances =
+    (from-measured (pair 600 300 30000) 600 refl refl, from-measured (pair 600 300 15000) 300 refl refl, from-measured street-a 60 refl refl)

@@ -1,0 +1,83 @@
+-- The measure of a plan's own offsets: they are instants of the cycle, so that no check refuses them, and the widths found are the reported ones. The offsets enter through the
+-- written list, which has the plan's offset at every signal. Assumes nothing.
+use Prim.Native.Nat.{ℕ, _+_, _*_, _≤_, _<_}
+use mathlib.Core.Path.{_≡_, refl, sym, ap, ap₂, _∙_, subst}
+use mathlib.Core.Bool.{false}
+use mathlib.Core.List.{List, [], append-nil}
+use native.Mathlib.Omega.{arith}
+use lib.IntN.{pos, _-ℤ_}
+use lib.ListN.{length, getD}
+use borrow.Author.Tests.{lt-leb}
+use Rattle.circle.specs.Man.{man}
+use Rattle.circle.specs.Over.{firstBelow, listBelow}
+use Rattle.circle.specs.Method.{Timed, halves, reference, equalWidth, redStart}
+use Rattle.circle.specs.Bands.{Way, width, bandStart, outboundWay, inboundWay}
+use Rattle.circle.proofs.Over.{first-nowhere, length-listBelow, getD-listBelow}
+use Rattle.circle.proofs.Method.{offset-lt}
+use Rattle.circle.proofs.Alike.{Alike, width-alike}
+use Rattle.street.specs.Lists.{Lists, signals}
+use Rattle.street.specs.Checks.{planChecks, orNext, faultAt}
+use Rattle.street.specs.Times.{timed}
+use Rattle.street.specs.declared.Code.the-variants.{Offset}
+use Rattle.street.specs.declared.Verdict.the-variants.{Passed}
+use Rattle.street.proofs.Passed.{clear, enough-room}
+use Rattle.plans.specs.Equal.{equalOffset}
+use Rattle.bands.specs.Measure.{badOffset, offsetCheck, measureChecks, measuredOf, foundOr}
+use Rattle.bands.proofs.CheckLaws.{checks-full}
+use Rattle.promises.specs.Rounded.{planOffsets, OwnMeasure}
+use Rattle.promises.proofs.Streets.{fit}
+use Rattle.promises.proofs.Rounded.{measured}
+
+written : (l : Lists) (j : ℕ) → j < signals l → getD (planOffsets l) j 0 ≡ equalOffset (timed l) j
+written l j h =
+    subst (λ xs. getD xs j 0 ≡ equalOffset (timed l) j) (append-nil (planOffsets l))
+    (getD-listBelow (signals l) (equalOffset (timed l)) [] j 0 h)
+
+module _ (l : Lists) (room : ℕ) (passed : planChecks l room ≡ Passed) where
+  in-cycle : offsetCheck (l .cycle) (planOffsets l) ≡ Passed
+  unfolding offsetCheck
+  in-cycle =
+      ap (faultAt Offset)
+      (first-nowhere (length (planOffsets l)) (badOffset (l .cycle) (planOffsets l))
+      (λ j h.
+      let size = length-listBelow (signals l) (equalOffset (timed l)) in
+      let below = offset-lt (timed l) (reference (timed l)) j (fit l room passed .turns) in
+      lt-leb (2 * l .cycle) (getD (planOffsets l) j 0) (omega (arith, below, written l j (omega arith)))))
+
+  accepted : measureChecks l (planOffsets l) ≡ Passed
+  accepted =
+      checks-full l (planOffsets l) (length-listBelow (signals l) (equalOffset (timed l)))
+      ∙ ap₂ orNext (enough-room l room (signals l) passed (omega arith)) in-cycle
+
+  -- only the offsets of the signals enter
+  same-outbound : Alike (outboundWay (timed l) (λ j. getD (planOffsets l) j 0)) (outboundWay (timed l) (equalOffset (timed l)))
+  same-outbound =
+      record {
+        around = refl;
+        signals = refl;
+        length = λ j h. refl;
+        past = λ x j h. ap (λ (f : ℕ). man (halves (timed l)) (pos (x + 2 * timed l .outbound j) -ℤ pos (redStart (timed l) j f))) (written l j h);
+      }
+
+  same-inbound : Alike (inboundWay (timed l) (λ j. getD (planOffsets l) j 0)) (inboundWay (timed l) (equalOffset (timed l)))
+  same-inbound =
+      record {
+        around = refl;
+        signals = refl;
+        length = λ j h. refl;
+        past = λ x j h. ap (λ (f : ℕ). man (halves (timed l)) (pos (x + inboundWay (timed l) (equalOffset (timed l)) .lag j) -ℤ pos (redStart (timed l) j f))) (written l j h);
+      }
+
+pub own-measure : OwnMeasure
+own-measure l room passed =
+    let s = timed l in
+    let out = outboundWay s (λ j. getD (planOffsets l) j 0) in
+    let back = inboundWay s (λ j. getD (planOffsets l) j 0) in (
+      bandStart out,
+      bandStart back,
+      ap (λ v. foundOr v (measuredOf s (planOffsets l))) (accepted l room passed)
+          ∙ ap₂
+          (λ (a b : ℕ). foundOr Passed (record { outbound = record { width = a; start = bandStart out }; inbound = record { width = b; start = bandStart back } }))
+          (width-alike out (outboundWay s (equalOffset s)) (same-outbound l room passed) ∙ measured l room passed .0)
+          (width-alike back (inboundWay s (equalOffset s)) (same-inbound l room passed) ∙ measured l room passed .1),
+    )
