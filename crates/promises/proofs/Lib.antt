@@ -4,3 +4,11 @@ pub mod Times
 pub mod Rounded
 pub mod Measure
 pub mod Instances
+pub mod Windows
+pub mod Directions
+pub mod Stretched
+pub mod Rounding
+pub mod Units
+pub mod Whole
+pub mod Replies
+pub mod Tight

@@ -1,1 +1,4 @@
 pub mod Rounded
+pub mod Exact
+pub mod Rounding
+pub mod Tight

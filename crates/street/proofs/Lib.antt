@@ -3,3 +3,4 @@ pub mod TimeLaws
 pub mod Passed
 pub mod Sound
 pub mod Unique
+pub mod Nearest

@@ -1,0 +1,86 @@
+-- What rounding costs, of a call's reply. Code 0 is given only where the checks found no fault, and then the contract makes the reply's numbers those of the method and the first
+-- entries of the lent list the equal plan's offsets: so what is proved of the method's numbers holds of the reply's. Assumes nothing.
+use Prim.Native.Nat.{ℕ, _+_, _-_, _*_, _≤_, _<_}
+use mathlib.Core.Path.{_≡_, refl, sym, ap, subst, _∙_}
+use mathlib.Core.List.{List}
+use native.Mathlib.Omega.{arith}
+use lib.ListN.{length, drop, getD}
+use Rattle.circle.specs.Over.{listBelow}
+use Rattle.circle.specs.Method.{reference, equalWidth}
+use Rattle.circle.proofs.Over.{getD-listBelow}
+use Rattle.street.specs.Lists.{Lists, signals}
+use Rattle.street.specs.Codes.{codeNumber}
+use Rattle.street.specs.Checks.{planChecks}
+use Rattle.street.specs.Times.{m, timed}
+use Rattle.street.specs.declared.Code.{Code}
+use Rattle.street.specs.declared.Code.the-variants.{Sheet, Count, Room, Cycle, Red, Distance, Speed, Platoon, Width, Offset}
+use Rattle.street.specs.declared.Verdict.{Verdict}
+use Rattle.street.specs.declared.Verdict.the-variants.{Passed, Refused}
+use Rattle.plans.specs.Answers.{numbersOf, answered}
+use Rattle.plans.specs.Equal.{equalOffset, equalPlan, written}
+use Rattle.plans.specs.declared.Plan.{Plan}
+use Rattle.promises.specs.Exact.{Fine}
+use Rattle.promises.specs.Rounding.{NoneBeats, Short, Exactly, NamedClear, ReplyKeeps}
+use Rattle.promises.proofs.Rounding.{beats, falls, named, equal-out, equal-back}
+use Rattle.promises.proofs.Whole.{equal-exactly}
+
+-- no code is 0
+code-some : (c : Code) → 1 ≤ codeNumber c
+code-some Sheet = omega arith
+code-some Count = omega arith
+code-some Room = omega arith
+code-some Cycle = omega arith
+code-some Red = omega arith
+code-some Distance = omega arith
+code-some Speed = omega arith
+code-some Platoon = omega arith
+code-some Width = omega arith
+code-some Offset = omega arith
+
+-- so an answer with code 0 passed the checks
+planned : (v : Verdict) (p : Plan) → numbersOf (answered v p) .code ≡ 0 → v ≡ Passed
+planned Passed p e = refl
+planned (Refused f) p e = absurd (omega (arith, code-some (f .code)))
+
+-- all that is promised of a reply's numbers and of the offsets that it leaves
+Kept : (l : Lists) (N : ℕ) (f : ℕ → ℕ) (c : ℕ) (p : Plan) → Type 0
+Kept l N f c p =
+    NoneBeats l N (p .outbound) (p .rounded)
+    × Short l N f (p .outbound) (p .inbound) (p .rounded)
+    × NamedClear l N f c (p .starts) (p .outbound) (p .ends) (p .inbound) (p .rounded)
+    × (p .rounded ≡ 0 → Exactly l N f (p .outbound) (p .inbound))
+
+-- the equal plan's numbers, with offsets that agree with it at every signal
+kept : (l : Lists) (room N : ℕ) (f : ℕ → ℕ) → planChecks l room ≡ Passed → Fine l N → ((j : ℕ) → j < signals l → f j ≡ equalOffset (timed l) j) → Kept l N f (reference (timed l)) (equalPlan (timed l) (m l))
+unfolding Kept
+kept l room N f passed fine same =
+    let s = timed l in
+    let out = equal-out l room passed N fine in
+    let back = equal-back l room passed N fine in (
+      beats l room passed N fine,
+      falls l room passed N fine (equalOffset s) f same (equalWidth s) (equalWidth s) out back,
+      named l room passed N fine (equalOffset s) f same (equalWidth s) (equalWidth s) out back,
+      λ none. equal-exactly l room passed N fine none f same,
+    )
+
+-- the list that a call leaves has the equal plan's offsets first
+left : (v : Verdict) (n : ℕ) (f : ℕ → ℕ) (before : List ℕ) → v ≡ Passed → (j : ℕ) → j < n → getD (written v (listBelow n f) before) j 0 ≡ f j
+left Passed n f before e j h = getD-listBelow n f (drop (length (listBelow n f)) before) j 0 h
+left (Refused r) n f before e j h = let z : _≡_ {A = ℕ} 0 1 = cc in absurd (omega arith)
+
+-- and the numbers that it replies are the plan's
+replied : (v : Verdict) (p : Plan) → v ≡ Passed → numbersOf (answered v p) .plan ≡ p
+replied Passed p e = refl
+replied (Refused f) p e = let z : _≡_ {A = ℕ} 0 1 = cc in absurd (omega arith)
+
+pub reply-keeps : ReplyKeeps
+unfolding Kept
+reply-keeps l entry exit r N call code fine =
+    let s = timed l in
+    let room = length entry in
+    let passed = planned (planChecks l room) (equalPlan s (m l)) (ap (λ a. numbersOf a .code) (sym (call .reply)) ∙ code) in
+    let numbers : equalPlan s (m l) ≡ numbersOf r .plan = sym (ap (λ a. numbersOf a .plan) (call .reply) ∙ replied (planChecks l room) (equalPlan s (m l)) passed) in
+    let same : (j : ℕ) → j < signals l → getD exit j 0 ≡ equalOffset s j = λ j h. ap (λ (x : List ℕ). getD x j 0) (call .after) ∙ left (planChecks l room) (signals l) (equalOffset s) entry passed j h in
+    let at-c : reference s ≡ reference s + 1 - 1 = omega arith in
+    subst (λ p. Kept l N (λ j. getD exit j 0) (p .reference - 1) p) numbers
+    (subst (λ (c : ℕ). Kept l N (λ j. getD exit j 0) c (equalPlan s (m l))) at-c (kept l room N (λ j. getD exit j 0) passed fine same))

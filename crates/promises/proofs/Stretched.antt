@@ -1,0 +1,151 @@
+-- From rounded times to exact ones and back, in one direction. A stretch at one of the two kinds of time is a stretch at the other, shorter by N times m: the lags differ within
+-- a window of that length. So an exact band is at most N times m narrower than a stretch of halves at rounded times, and leaves one that is at most N times m narrower than
+-- itself. Counted at a signal c, where both kinds of time agree, a stretch loses at most N times m at each end: what is left of a named band is clear. Assumes nothing.
+use Prim.Native.Nat.{ℕ, zero, suc, _+_, _-_, _*_, _≤_, _<_}
+use mathlib.Core.Path.{_≡_, refl, sym, ap, ap₂, _∙_}
+use mathlib.Core.Bool.{true}
+use native.Mathlib.Omega.{arith}
+use native.Mathlib.Decide.{decLe}
+use native.Mathlib.Nat.{mul-le-mul-left, mul-lt-mul-of-pos-left}
+use lib.IntN.{pos, _-ℤ_}
+use Rattle.circle.specs.Man.{man}
+use Rattle.circle.specs.Method.{halves, redStart}
+use Rattle.circle.specs.Bands.{Way, clear, stretch, width, bandStart, outboundWay}
+use Rattle.circle.proofs.Man.{Turns, man-turns}
+use Rattle.circle.proofs.Tests.{all-each}
+use Rattle.circle.proofs.Arcs.{since, Passes}
+use Rattle.circle.proofs.Since.{along}
+use Rattle.circle.proofs.Stretches.{Proper, passes-stretch, since-turns, width-ge, width-le, band-starts}
+use Rattle.circle.proofs.Perturbation.{lags-passes, lags-back, part}
+use Rattle.circle.proofs.Scale.{finer-passes}
+use Rattle.street.specs.Lists.{Lists, signals}
+use Rattle.street.specs.Checks.{planChecks}
+use Rattle.street.specs.Times.{m, timed}
+use Rattle.street.specs.declared.Verdict.the-variants.{Passed}
+use Rattle.promises.specs.Exact.{Fine, exactWay}
+use Rattle.promises.specs.Rounding.{InsideClear, after}
+use Rattle.promises.proofs.Directions.{countedWay, Direction, fit, stops}
+
+-- of k departures that pass each one is clear, and so is one that differs from it by whole turns
+turned : (w : Way) → Proper w → (x y i k : ℕ) → i < k → Turns (w .around) x (y + i) → Passes w y k → clear w x ≡ true
+unfolding stretch
+turned w proper x y i k l turns passes =
+    let one = part w i (k - 1) y k (omega arith) (omega arith) passes in
+    let here : Passes w x 1 = record { each = λ j h r. omega (arith, since-turns w proper x (y + i) j turns, one .each j h r) } in
+    let first : x + 0 ≡ x = omega arith in
+    sym (ap (clear w) first) ∙ all-each 1 (λ i. clear w (x + i)) (passes-stretch w x 1 here) 0 (omega arith)
+
+module _ (l : Lists) (room : ℕ) (passed : planChecks l room ≡ Passed) (N : ℕ) (fine : Fine l N) {coarse rounded exact : ℕ → ℕ} (d : Direction l N coarse rounded exact) where
+  pub proper : (f : ℕ → ℕ) → Proper (exactWay l N f exact)
+  proper f =
+      let ok = fit l room passed in
+      record {
+        turns = omega (arith, mul-lt-mul-of-pos-left (ok .turns) (fine .some));
+        fits = λ j h. mul-le-mul-left N (omega (arith, ok .goes j h));
+      }
+
+  -- offsets that agree at every signal leave the same times since each red, in the one form of the fine street and in the other
+  since-alike : (f g lag : ℕ → ℕ) → ((j : ℕ) → j < signals l → f j ≡ g j) → (x j : ℕ) → j < signals l → since (countedWay l N f lag) x j ≡ since (exactWay l N g lag) x j
+  unfolding redStart
+  since-alike f g lag same x j h =
+      let r = timed l .red j in
+      let turn : 2 * (N * l .cycle) ≡ N * (2 * l .cycle) = omega arith in
+      let long : 2 * (N * r) ≡ N * (2 * r) = omega arith in
+      ap₂ (λ (M f : ℕ). man M (pos (x + lag j) -ℤ pos (man M (pos f -ℤ pos (N * r)) + 2 * (N * r)))) turn (same j h)
+      ∙ ap (λ (z : ℕ). man (N * (2 * l .cycle)) (pos (x + lag j) -ℤ pos (man (N * (2 * l .cycle)) (pos (g j) -ℤ pos (N * r)) + z))) long
+
+  to-exact : (f g lag : ℕ → ℕ) → ((j : ℕ) → j < signals l → f j ≡ g j) → (x k : ℕ) → Passes (countedWay l N f lag) x k → Passes (exactWay l N g lag) x k
+  to-exact f g lag same x k p =
+      record { each = λ j h r. omega (arith, since-alike f g lag same x j h, p .each j h (omega arith)) }
+
+  from-exact : (f lag : ℕ → ℕ) (x k : ℕ) → Passes (exactWay l N f lag) x k → Passes (countedWay l N f lag) x k
+  from-exact f lag x k p =
+      record { each = λ j h r. omega (arith, since-alike f f lag (λ j h. refl) x j h, p .each j h (omega arith)) }
+
+  -- k departures that pass at rounded times, and at exact times all but N times m of them
+  forth : (f g : ℕ → ℕ) → ((j : ℕ) → j < signals l → f j ≡ g j) → (x k : ℕ) → N * m l ≤ k → Passes (countedWay l N f rounded) x k → Passes (exactWay l N g exact) (x + d .window .moved) (k - N * m l)
+  forth f g same x k some p =
+      let w = d .window in
+      to-exact f g exact same (x + w .moved) (k - N * m l)
+      (lags-passes (countedWay l N f rounded) exact (w .δ) (w .moved) (N * m l) (λ j h. w .each j (omega arith)) (λ j h. w .within j (omega arith)) x k some p)
+
+  -- and back
+  back : (f : ℕ → ℕ) (x k : ℕ) → N * m l ≤ k → Passes (exactWay l N f exact) x k → (y : ℕ) × Passes (countedWay l N f rounded) y (k - N * m l)
+  back f x k some p =
+      let w = d .window in
+      let turns : 0 < 2 * (N * l .cycle) = omega (arith, proper f .turns) in
+      (_, lags-back (countedWay l N f rounded) exact (w .δ) (w .moved) (N * m l) (λ j h. w .each j (omega arith)) (λ j h. w .within j (omega arith)) x k turns some (from-exact f exact x k p))
+
+  -- an exact band wider than N times m leaves a stretch at rounded times
+  pub leaves : (f : ℕ → ℕ) → N * m l < width (exactWay l N f exact) → (y : ℕ) × Passes (countedWay l N f rounded) y (width (exactWay l N f exact) - N * m l)
+  leaves f wide =
+      let z = exactWay l N f exact in
+      back f (bandStart z) (width z) (omega arith) (band-starts z (proper f) (omega arith) .passes)
+
+  -- so where no stretch at rounded times exceeds `top`, no exact band exceeds it by more than N times m
+  pub no-wider : (f : ℕ → ℕ) (top : ℕ) → ((x k : ℕ) → Passes (countedWay l N f rounded) x k → k ≤ top) → width (exactWay l N f exact) ≤ top + N * m l
+  no-wider f top most = go (decLe (width (exactWay l N f exact)) (N * m l))
+    where
+      go : Dec (width (exactWay l N f exact) ≤ N * m l) → width (exactWay l N f exact) ≤ top + N * m l
+      go (yes h) = omega arith
+      go (no h) =
+          let (y, p) = leaves f (omega arith) in
+          omega (arith, most y (width (exactWay l N f exact) - N * m l) p)
+
+  -- offsets that agree at every signal have bands of one width
+  pub alike : (f g : ℕ → ℕ) → ((j : ℕ) → j < signals l → f j ≡ g j) → width (exactWay l N f exact) ≤ width (exactWay l N g exact)
+  alike f g same = go (decLe 1 (width (exactWay l N f exact)))
+    where
+      go : Dec (1 ≤ width (exactWay l N f exact)) → width (exactWay l N f exact) ≤ width (exactWay l N g exact)
+      go (yes some) =
+          let w = exactWay l N f exact in
+          let x = bandStart w in
+          let p = from-exact f exact x (width w) (band-starts w (proper f) some .passes) in
+          width-ge (exactWay l N g exact) (proper g) x (width w) some (width-le w) (to-exact f g exact same x (width w) p)
+      go (no none) = omega arith
+
+  module _ (f g : ℕ → ℕ) (same : (j : ℕ) → j < signals l → g j ≡ f j) where
+    agree : (j : ℕ) → j < signals l → N * f j ≡ N * g j
+    agree j h = ap (λ (z : ℕ). N * z) (sym (same j h))
+
+    -- a stretch of v halves at rounded times is N times m wider than the exact band at most
+    pub short : (x v : ℕ) → Passes (along (outboundWay (timed l) f) coarse) x v → N * v ≤ width (exactWay l N (λ j. N * g j) exact) + N * m l
+    short x v p = go (decLe (N * v) (N * m l))
+      where
+        go : Dec (N * v ≤ N * m l) → N * v ≤ width (exactWay l N (λ j. N * g j) exact) + N * m l
+        go (yes little) = omega arith
+        go (no more) =
+            let first : 0 < signals l = fit l room passed .some in
+            let most : v ≤ halves (timed l) = omega (arith, p .each 0 first (omega (arith, stops l room passed 0 first))) in
+            let w = exactWay l N (λ j. N * g j) exact in
+            let q = finer-passes N (along (outboundWay (timed l) f) coarse) (countedWay l N (λ j. N * f j) rounded) x v (d .finer f) p in
+            let r = forth (λ j. N * f j) (λ j. N * g j) agree (N * x) (N * v) (omega arith) q in
+            omega (arith, width-ge w (proper (λ j. N * g j)) (N * x + d .window .moved) (N * v - N * m l) (omega arith) (omega (arith, mul-le-mul-left N most)) r)
+
+    -- counted at c, where the stretch is at the instant `start`, all but N times m at each end is clear
+    pub inside : (c start v x : ℕ) → c < signals l → Turns (halves (timed l)) (x + coarse c) start → (1 ≤ v → Passes (along (outboundWay (timed l) f) coarse) x v) → InsideClear (exactWay l N (λ j. N * g j) exact) N c start v (m l)
+    inside c start v x here at-c passes y late early =
+        let z = exactWay l N (λ j. N * g j) exact in
+        let counted = countedWay l N (λ j. N * f j) rounded in
+        let w = d .window in
+        let Nm : ℕ = N * m l in
+        let k : ℕ = after z N c start y in
+        let a : ℕ = w .moved + Nm - w .δ c in
+        let there = w .each c (omega arith) in
+        let small = w .within c (omega arith) in
+        let room : 2 * Nm + 1 ≤ N * v = omega arith in
+        let q = finer-passes N (along (outboundWay (timed l) f) coarse) counted x v (d .finer f) (passes (some v room)) in
+        let r = lags-passes counted exact (λ j. w .δ j + Nm - w .δ c) a (2 * Nm) (λ j h. omega (arith, w .each j (omega arith))) (λ j h. omega (arith, w .within j (omega arith))) (N * x) (N * v) (omega arith) q in
+        let e = to-exact (λ j. N * f j) (λ j. N * g j) exact agree (N * x + a) (N * v - 2 * Nm) r in
+        let turn = man-turns (z .around) (y + exact c) (N * start) (proper (λ j. N * g j) .turns) in
+        turned z (proper (λ j. N * g j)) y (N * x + a) (k - Nm) (N * v - 2 * Nm) (omega arith)
+        (record {
+          p = turn .q + at-c .q;
+          q = turn .p + at-c .p;
+          eq = omega (arith, turn .eq, ap (λ (t : ℕ). N * t) (at-c .eq), d .finer f .lag c here);
+        })
+        e
+      where
+        some : (v : ℕ) → 2 * (N * m l) + 1 ≤ N * v → 1 ≤ v
+        some zero h = absurd (omega arith)
+        some (suc v) h = omega arith
