@@ -14,7 +14,7 @@ fn red(instant: i64, offset: i64, red: i64, halves: i64) -> bool {
 }
 
 /// The length of the unbroken stretch of clear departures from each start, round the cycle and at most once.
-fn stretches(clear: &[bool]) -> Vec<i64> {
+pub fn stretches(clear: &[bool]) -> Vec<i64> {
     let halves = clear.len();
     let (mut lengths, mut length) = (vec![0; halves], 0);
     // The second time round, a stretch over the end of the cycle is known as a whole.
@@ -25,17 +25,21 @@ fn stretches(clear: &[bool]) -> Vec<i64> {
     lengths
 }
 
-/// The stretches of one direction, given each signal's lag in ticks behind the signal where cars enter.
+/// Whether a departure meets no red, given each signal's lag in ticks behind the place where it is counted.
+pub fn clear(street: &Street, offsets: &[i64], lags: &[i64], departure: i64) -> bool {
+    let at = |j: usize| departure + 2 * lags[j];
+    (0..lags.len()).all(|j| !red(at(j), offsets[j], street.reds[j], street.halves()))
+}
+
+/// The stretches of one direction, given each signal's lag behind the signal where cars enter.
 fn direction(street: &Street, offsets: &[i64], lags: &[i64]) -> Vec<i64> {
-    let halves = street.halves();
-    let green = |departure: i64, j: usize| !red(departure + 2 * lags[j], offsets[j], street.reds[j], halves);
     let clear: Vec<bool> =
-        (0..halves).map(|departure| (0..lags.len()).all(|j| green(departure, j))).collect();
+        (0..street.halves()).map(|departure| clear(street, offsets, lags, departure)).collect();
     stretches(&clear)
 }
 
 /// The stretches from each start: outbound ones at signal 1, inbound ones at signal n.
-fn directions(street: &Street, offsets: &[i64]) -> [Vec<i64>; 2] {
+pub fn directions(street: &Street, offsets: &[i64]) -> [Vec<i64>; 2] {
     let times = Times::of(street);
     let last = street.signals() - 1;
     let out: Vec<i64> = (0..=last).map(|j| times.t(0, j)).collect();
@@ -43,7 +47,8 @@ fn directions(street: &Street, offsets: &[i64]) -> [Vec<i64>; 2] {
     [direction(street, offsets, &out), direction(street, offsets, &back)]
 }
 
-fn longest(lengths: &[i64]) -> Band {
+/// The longest of one direction's stretches and the smallest start that attains it.
+pub fn longest(lengths: &[i64]) -> Band {
     let width = *lengths.iter().max().expect("a cycle has an instant");
     let start = lengths.iter().position(|&length| length == width).expect("a longest stretch starts");
     Band { width, start: start as i64 }
@@ -55,16 +60,8 @@ pub fn measure(street: &Street, offsets: &[i64]) -> (Band, Band) {
     (longest(&out), longest(&back))
 }
 
-/// Whether some direction has a band, and more than one start attains it.
-pub fn ties(street: &Street, offsets: &[i64]) -> bool {
-    let tied = |lengths: Vec<i64>| {
-        let width = longest(&lengths).width;
-        width > 0 && lengths.iter().filter(|&&length| length == width).count() > 1
-    };
-    directions(street, offsets).into_iter().any(tied)
-}
-
-fn measure_fault(street: &Street, offsets: &[i64]) -> Option<Refusal> {
+/// The first fault of what is to be measured, in the order of the codes.
+pub fn measure_fault(street: &Street, offsets: &[i64]) -> Option<Refusal> {
     let outside = |k: usize| !(0..street.halves()).contains(&offsets[k]);
     street
         .count_fault()

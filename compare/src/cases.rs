@@ -1,15 +1,16 @@
 //! The program `cases` as a model: many requests in one input, each with its sheet, and a reply to each.
 
-use crate::printed::{measure_prints, planned, printed};
+use crate::moved::{plan, Ask};
+use crate::printed::{measure_prints, printed};
+use crate::sheet::read;
 use crate::street::MAX_SIGNALS;
 
 pub const LARGEST_INPUT: usize = 65_536;
 pub const LARGEST_ROOM: usize = 64;
 
-/// A request that is served. Those that are not built yet get the reply of a request of another form.
 #[derive(Clone, Debug, PartialEq)]
 pub enum Request {
-    Equal { room: usize },
+    Plan { ask: Ask, room: usize },
     Measure { offsets: Vec<i64> },
 }
 
@@ -30,16 +31,25 @@ fn room(words: &[&str]) -> Option<usize> {
     }
 }
 
-pub fn request(line: &[u8]) -> Option<Request> {
-    let words: Vec<&str> = std::str::from_utf8(line).ok()?.split(' ').collect();
-    match words[..] {
-        ["equal", ref rest @ ..] => room(rest).map(|room| Request::Equal { room }),
-        ["measure", ref rest @ ..] => {
-            let offsets = rest.iter().map(|word| number(word)).collect::<Option<Vec<i64>>>()?;
-            Some(Request::Measure { offsets })
-        }
+/// What a plan's request asks for, and the words after it.
+fn ask<'a>(words: &'a [&'a str]) -> Option<(Ask, &'a [&'a str])> {
+    match words {
+        ["equal", rest @ ..] => Some((Ask::Equal, rest)),
+        ["outbound", width, rest @ ..] => Some((Ask::Outbound(number(width)?), rest)),
+        ["inbound", width, rest @ ..] => Some((Ask::Inbound(number(width)?), rest)),
+        ["platoons", out, back, rest @ ..] => Some((Ask::Platoons(number(out)?, number(back)?), rest)),
         _ => None,
     }
+}
+
+pub fn request(line: &[u8]) -> Option<Request> {
+    let words: Vec<&str> = std::str::from_utf8(line).ok()?.split(' ').collect();
+    if let ["measure", rest @ ..] = &words[..] {
+        let offsets = rest.iter().map(|word| number(word)).collect::<Option<Vec<i64>>>()?;
+        return Some(Request::Measure { offsets });
+    }
+    let (ask, rest) = ask(&words)?;
+    room(rest).map(|room| Request::Plan { ask, room })
 }
 
 /// The reply to one case, without the empty line that follows it.
@@ -47,7 +57,9 @@ pub fn reply(case: &[u8]) -> String {
     let end = case.iter().position(|&byte| byte == 10);
     let served = end.and_then(|end| Some((request(&case[..end])?, &case[end + 1..])));
     match served {
-        Some((Request::Equal { room }, sheet)) => printed(&planned(sheet, room)),
+        Some((Request::Plan { ask, room }, sheet)) => {
+            printed(&read(sheet).and_then(|street| plan(&street, ask, room)))
+        }
         Some((Request::Measure { offsets }, sheet)) => measure_prints(sheet, &offsets),
         None => "bad request\n".to_string(),
     }

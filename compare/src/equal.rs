@@ -52,6 +52,13 @@ impl<'a> Pairs<'a> {
         (0..n).any(|i| (0..n).any(|j| i != j && touch(i, j)))
     }
 
+    /// The reference, counted from 0, and B.
+    pub fn reference(&self) -> (usize, i64) {
+        let leasts = self.leasts();
+        let best = *leasts.iter().max().unwrap();
+        (leasts.iter().position(|&least| least == best).unwrap(), best)
+    }
+
     fn phase(&self, i: usize, j: usize) -> i64 {
         let [none, half] = self.phases();
         if self.width(i, j, half) > self.width(i, j, none) {
@@ -59,6 +66,11 @@ impl<'a> Pairs<'a> {
         } else {
             none
         }
+    }
+
+    /// u(j): the u of the better phase.
+    pub fn chosen(&self, c: usize, j: usize) -> i64 {
+        self.u(c, j, self.phase(c, j))
     }
 
     fn offset(&self, c: usize, j: usize) -> i64 {
@@ -72,9 +84,7 @@ pub fn equal(street: &Street, room: usize) -> Result<Plan, Refusal> {
         return Err(refusal);
     }
     let pairs = Pairs::of(street);
-    let leasts = pairs.leasts();
-    let best = *leasts.iter().max().unwrap();
-    let c = leasts.iter().position(|&least| least == best).unwrap();
+    let (c, best) = pairs.reference();
     Ok(Plan {
         reference: c as i64 + 1,
         best,

@@ -1,8 +1,13 @@
 //! Random cases of one test held to the model: the report of a difference, the replay of one case, and plain replies.
 
 use crate::cases::{input, output, reply};
+use crate::equal::Plan;
+use crate::offsets::request;
+use crate::printed::plan_in;
 use crate::run::Program;
+use crate::street::Street;
 use crate::trial::{compare_run, in_parallel, indented, runs, setting, Case, Difference};
+use std::fmt::Display;
 
 /// Prints the first differences with the command that makes each again, and fails if there is one.
 pub fn report(test: &str, seed: u64, differences: &[Difference]) {
@@ -25,16 +30,16 @@ pub fn hold(test: &str, seed: u64, count: u64, make: fn(u64, u64) -> Case) -> Op
         return None;
     }
     let cases: Vec<Case> = (0..count).map(|number| make(seed, number)).collect();
-    compare_all(test, seed, &cases);
+    report(test, seed, &compare_all(&cases));
     Some(cases)
 }
 
-/// Puts cases to `cases` in as few runs as it takes, and fails where a reply is not the model's.
-pub fn compare_all(test: &str, seed: u64, cases: &[Case]) {
+/// Puts cases to `cases` in as few runs as it takes, and finds where a reply is not the model's.
+pub fn compare_all(cases: &[Case]) -> Vec<Difference> {
     let program = Program::cases();
     let runs = runs(cases);
     println!("{} requests through `cases` in {} runs", cases.len(), runs.len());
-    report(test, seed, &in_parallel(&runs, |run| compare_run(&program, run)));
+    in_parallel(&runs, |run| compare_run(&program, run))
 }
 
 fn replay(test: &str, seed: u64, case: Case) {
@@ -56,6 +61,36 @@ pub fn replies(program: &Program, cases: &[Case]) -> Vec<String> {
         replies
     };
     runs(cases).into_iter().flat_map(answer).collect()
+}
+
+/// The plans that `cases` itself replies with.
+pub fn plans(cases: &[Case]) -> Vec<Plan> {
+    let texts = replies(&Program::cases(), cases);
+    let plan = |(case, text): (&Case, &String)| {
+        plan_in(text).unwrap_or_else(|| panic!("`{text}` is no plan, on {case:?}"))
+    };
+    cases.iter().zip(&texts).map(plan).collect()
+}
+
+/// The plans that `cases` itself replies with to each thing that is asked of each street.
+pub fn plans_asked<A: Display>(asked: &[(Street, Vec<A>)]) -> Vec<Vec<Plan>> {
+    let about = |(street, asks): &(Street, Vec<A>)| {
+        asks.iter().map(|ask| Case::about(street, ask)).collect::<Vec<Case>>()
+    };
+    let mut replies = plans(&asked.iter().flat_map(about).collect::<Vec<Case>>()).into_iter();
+    asked.iter().map(|(_, asks)| replies.by_ref().take(asks.len()).collect()).collect()
+}
+
+/// The outbound and inbound widths that `cases` itself measures under each plan's offsets.
+pub fn widths(streets: &[Street], plans: &[Plan]) -> Vec<(i64, i64)> {
+    let measure = |(street, plan): (&Street, &Plan)| Case::about(street, request(&plan.offsets));
+    let cases: Vec<Case> = streets.iter().zip(plans).map(measure).collect();
+    let numbers = |text: &String| {
+        let numbers: Vec<i64> = text.split(' ').filter_map(|word| word.parse().ok()).collect();
+        let [out, _, back, _] = numbers[..] else { panic!("`{text}` is no measure") };
+        (out, back)
+    };
+    replies(&Program::cases(), &cases).iter().map(numbers).collect()
 }
 
 /// Some requests about one sheet, and the text that each of them gets.

@@ -1,17 +1,22 @@
 //! The rules of `docs/RULES.md` a second time, and what holds the programs to them.
 //!
-//! The model (`street`, `equal`, `bands`, `sheet`, `printed`, `cases`) follows the rules' signed formulas as
-//! they stand, by brute force, and shares nothing with the proved crates. The rest makes sheets and requests
-//! (`random`, `streets`, `limits`, `damage`, `offsets`), runs the programs on them (`run`) and compares (`trial`,
-//! `hold`, `coverage`, `tally`).
+//! The model (`street`, `equal`, `moved`, `bands`, `named`, `exact`, `sheet`, `printed`, `cases`) follows the rules'
+//! signed formulas as they stand, by brute force, and shares nothing with the proved crates. The rest makes sheets
+//! and requests (`random`, `streets`, `limits`, `damage`, `offsets`, `asks`), runs the programs on them (`run`) and
+//! compares (`trial`, `hold`, `coverage`, `asked`, `tally`).
 
+pub mod asked;
+pub mod asks;
 pub mod bands;
 pub mod cases;
 pub mod coverage;
 pub mod damage;
 pub mod equal;
+pub mod exact;
 pub mod hold;
 pub mod limits;
+pub mod moved;
+pub mod named;
 pub mod offsets;
 pub mod printed;
 pub mod random;

@@ -65,3 +65,9 @@ pub fn list(random: &mut Random, street: &Street) -> Vec<i64> {
 pub fn request(offsets: &[i64]) -> String {
     offsets.iter().fold("measure".to_string(), |line, offset| format!("{line} {offset}"))
 }
+
+/// Every list of as many offsets as the street has signals.
+pub fn every(street: &Street) -> impl Iterator<Item = Vec<i64>> {
+    let (halves, n) = (street.halves(), street.signals() as u32);
+    (0..halves.pow(n)).map(move |code| (0..n).map(|j| code / halves.pow(j) % halves).collect())
+}

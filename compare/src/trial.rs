@@ -8,7 +8,7 @@ use crate::sheet::write;
 use crate::street::Street;
 use crate::{damage, limits, streets};
 use std::env;
-use std::fmt::{Debug, Formatter};
+use std::fmt::{Debug, Display, Formatter};
 
 /// One request and its sheet; `number` makes it again from the seed.
 #[derive(Clone)]
@@ -27,6 +27,11 @@ impl Debug for Case {
 impl Case {
     pub fn equal(number: u64, sheet: Vec<u8>) -> Case {
         Case { number, request: "equal".to_string(), sheet }
+    }
+
+    /// A request about a street, made without a number.
+    pub fn about(street: &Street, request: impl Display) -> Case {
+        Case { number: 0, request: request.to_string(), sheet: write(street) }
     }
 
     /// A request with a sheet of the street that may be damaged, but holds no byte 0.

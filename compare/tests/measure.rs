@@ -2,22 +2,20 @@
 //!
 //! `COMPARE_SEED` sets the seed of the random cases, and `COMPARE_CASE` replays one of them by its number.
 
-use compare::bands::{measure, measured, ties, Band};
+use compare::bands::{directions, longest, measure, measure_fault, Band};
 use compare::cases::{request, Request};
 use compare::equal::Plan;
-use compare::hold::{compare_all, expect, hold, replies};
-use compare::offsets::{list, request as asking};
-use compare::printed::plan_in;
+use compare::hold::{compare_all, expect, hold, plans, widths};
+use compare::offsets::{every, list, request as asking};
 use compare::random::Random;
-use compare::run::Program;
-use compare::sheet::{read, write, STREET_A};
+use compare::sheet::{read, STREET_A};
 use compare::street::Street;
 use compare::streets;
 use compare::tally::Tally;
-use compare::trial::{in_parallel, Case};
+use compare::trial::{in_parallel, Case, Difference};
 
 const SEED: u64 = 1_118;
-const CASES: u64 = 5_000;
+const CASES: u64 = 4_000;
 
 fn random_case(seed: u64, number: u64) -> Case {
     let random = &mut Random::new(seed, number);
@@ -30,9 +28,9 @@ fn random_case(seed: u64, number: u64) -> Case {
 fn cases_measures_as_the_model_does() {
     let Some(cases) = hold("measure", SEED, CASES, random_case) else { return };
     let mut tally = Tally::of(&[
-        ("requests", 5_000),
-        ("measured", 2_000),
-        ("measured with 20 signals or more", 500),
+        ("requests", 4_000),
+        ("measured", 1_500),
+        ("measured with 20 signals or more", 400),
         ("measured with a band and 20 signals or more", 200),
         ("with both widths 0", 300),
         ("with one width 0", 100),
@@ -53,10 +51,13 @@ fn cases_measures_as_the_model_does() {
 
 fn note(tally: &mut Tally, case: &Case) {
     let Some(Request::Measure { offsets }) = request(case.request.as_bytes()) else { panic!("{case:?}") };
+    let served = read(&case.sheet).and_then(|street| match measure_fault(&street, &offsets) {
+        Some(refusal) => Err(refusal),
+        None => Ok(street),
+    });
     tally.note("requests", true);
-    let street = read(&case.sheet);
-    match street.clone().and_then(|street| measured(&street, &offsets)) {
-        Ok(bands) => note_bands(tally, &street.expect("a measured street reads"), &offsets, bands),
+    match served {
+        Ok(street) => note_bands(tally, &street, directions(&street, &offsets)),
         Err(refusal) => {
             tally.note(&format!("refused by code {}", refusal.code), true);
             tally.note("refused by code 10 after signal 1", refusal.code == 10 && refusal.place > 1);
@@ -64,17 +65,23 @@ fn note(tally: &mut Tally, case: &Case) {
     }
 }
 
-fn note_bands(tally: &mut Tally, street: &Street, offsets: &[i64], (out, back): (Band, Band)) {
+/// Counts a measured street by the lengths of its stretches from each start, outbound and inbound.
+fn note_bands(tally: &mut Tally, street: &Street, stretches: [Vec<i64>; 2]) {
     let many = street.signals() >= 20;
-    let empty = [out, back].iter().filter(|band| band.width == 0).count();
-    let over = |band: Band| band.start + band.width > street.halves();
+    let bands: Vec<Band> =
+        stretches.iter().map(|lengths| longest(lengths)).filter(|band| band.width > 0).collect();
+    let tied = stretches.iter().any(|lengths| {
+        let width = longest(lengths).width;
+        width > 0 && lengths.iter().filter(|&&length| length == width).count() > 1
+    });
     tally.note("measured", true);
     tally.note("measured with 20 signals or more", many);
-    tally.note("measured with a band and 20 signals or more", many && empty < 2);
-    tally.note("with both widths 0", empty == 2);
-    tally.note("with one width 0", empty == 1);
-    tally.note("with tied stretches", empty < 2 && ties(street, offsets));
-    tally.note("with a band over the end of the cycle", over(out) || over(back));
+    tally.note("measured with a band and 20 signals or more", many && !bands.is_empty());
+    tally.note("with both widths 0", bands.is_empty());
+    tally.note("with one width 0", bands.len() == 1);
+    tally.note("with tied stretches", tied);
+    let over = bands.iter().any(|band| band.start + band.width > street.halves());
+    tally.note("with a band over the end of the cycle", over);
 }
 
 /// One signal that is red for 2 of 20 halves, two together that are red for 4, and two that leave no band.
@@ -141,33 +148,18 @@ fn a_measure_of_another_form_is_bad() {
     expect(&bad.map(|requests| (requests, STREET_A, "bad request")));
 }
 
-/// The plans that `cases` gives the streets.
-fn plans(streets: &[Street]) -> Vec<Plan> {
-    let equal: Vec<Case> = streets.iter().map(|street| Case::equal(0, write(street))).collect();
-    let texts = replies(&Program::cases(), &equal);
-    texts.iter().map(|text| plan_in(text).unwrap_or_else(|| panic!("{text} is no plan"))).collect()
+/// The equal plans that `cases` gives the streets.
+fn equal_plans(streets: &[Street]) -> Vec<Plan> {
+    plans(&streets.iter().map(|street| Case::about(street, "equal")).collect::<Vec<Case>>())
 }
 
 #[test]
 fn an_equal_plan_has_the_widths_that_it_reports() {
     let streets: Vec<Street> = (0..400).map(|k| streets::street(&mut Random::new(SEED + 1, k))).collect();
-    let plans = plans(&streets);
-    let asking = |(street, plan): (&Street, &Plan)| Case {
-        number: 0,
-        request: asking(&plan.offsets),
-        sheet: write(street),
-    };
-    let cases: Vec<Case> = streets.iter().zip(&plans).map(asking).collect();
-    for ((text, plan), case) in replies(&Program::cases(), &cases).iter().zip(&plans).zip(&cases) {
-        let numbers: Vec<i64> = text.split(' ').map(|word| word.parse().expect("a number")).collect();
-        assert_eq!([numbers[0], numbers[2]], [plan.outbound, plan.inbound], "{case:?}");
+    let plans = equal_plans(&streets);
+    for ((measured, plan), street) in widths(&streets, &plans).into_iter().zip(&plans).zip(&streets) {
+        assert_eq!(measured, (plan.outbound, plan.inbound), "{street:?}");
     }
-}
-
-/// Every list of as many offsets as the street has signals.
-fn all_offsets(street: &Street) -> impl Iterator<Item = Vec<i64>> {
-    let (halves, n) = (street.halves(), street.signals() as u32);
-    (0..halves.pow(n)).map(move |code| (0..n).map(|j| code / halves.pow(j) % halves).collect())
 }
 
 #[test]
@@ -178,13 +170,13 @@ fn no_offsets_have_a_greater_smaller_width() {
         streets::sized(random, n, cycle)
     };
     let streets: Vec<Street> = (0..70).map(street).collect();
-    let pairs: Vec<(Street, Plan)> = streets.iter().cloned().zip(plans(&streets)).collect();
+    let planned: Vec<(&Street, Plan)> = streets.iter().zip(equal_plans(&streets)).collect();
     let smaller = |street: &Street, offsets: &[i64]| {
         let (out, back) = measure(street, offsets);
         out.width.min(back.width)
     };
-    let beaten = in_parallel(&pairs, |(street, plan)| {
-        let most = all_offsets(street).map(|offsets| smaller(street, &offsets)).max();
+    let beaten = in_parallel(&planned, |(street, plan)| {
+        let most = every(street).map(|offsets| smaller(street, &offsets)).max();
         (most != Some(plan.best.max(0))).then(|| format!("{most:?} on {street:?}"))
     });
     assert!(beaten.is_empty(), "{beaten:?}");
@@ -194,9 +186,9 @@ fn no_offsets_have_a_greater_smaller_width() {
 fn every_pair_of_offsets_of_small_streets() {
     let cases = |seed: u64| {
         let street = streets::sized(&mut Random::new(SEED + 3, seed), 2, 10);
-        let sheet = write(&street);
-        let case = |offsets: Vec<i64>| Case { number: seed, request: asking(&offsets), sheet: sheet.clone() };
-        all_offsets(&street).map(case).collect::<Vec<Case>>()
+        every(&street).map(|offsets| Case::about(&street, asking(&offsets))).collect::<Vec<Case>>()
     };
-    compare_all("measure", SEED + 3, &(0..12).flat_map(cases).collect::<Vec<Case>>());
+    let differences = compare_all(&(0..12).flat_map(cases).collect::<Vec<Case>>());
+    differences.iter().take(3).for_each(Difference::print);
+    assert!(differences.is_empty(), "{} runs differ from the model", differences.len());
 }

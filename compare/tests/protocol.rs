@@ -38,11 +38,6 @@ fn expect_bad(requests: &[&str]) {
 }
 
 #[test]
-fn a_request_that_is_not_built_yet_is_bad() {
-    expect_bad(&["outbound 80", "inbound 80", "platoons 1 2"]);
-}
-
-#[test]
 fn a_request_of_another_form_is_bad() {
     expect_bad(&[
         "", " ", "nonsense", "Equal", "equa", "equals", "equal ", " equal", "equal\r", "equal 5", "room 5",

@@ -7,6 +7,7 @@ use plans::Answer;
 use printed::Printed;
 use sheet::Sheet;
 use street::Refusal;
+use street::Street;
 use street::Verdict;
 ghost use Prim.Native.Nat.{_≤_};
 ghost use mathlib.Core.Path.{_≡_};
@@ -62,9 +63,62 @@ fn measured(s: Sheet, count: usize, offsets: [u32; 64])
     }
 }
 
+// How many entries are lent: as many as the request says, 32 at most, which is enough for every street.
+fn lent(room: usize) -> usize
+    ensures { λ r. ⌜ r ≤ 32 ⌝ }
+{
+    if room < Street::MAX_SIGNALS {
+        return room;
+    }
+    Street::MAX_SIGNALS
+}
+
+// The plan of a call with a request, on a sheet's street. A call that is not one of these is answered as `equal` is.
+fn planned(s: Sheet, call: Call, room: usize, first: u32, second: u32)
+    requires { ⌜ Held s ⌝ }
+{
+    let n = s.signals;
+    let links = n - 1;
+    let cycle = s.cycle;
+    let reds = s.reds;
+    let distances = s.distances;
+    let outbound = s.outbound;
+    let inbound = s.inbound;
+    let r = &reds[..n];
+    let d = &distances[..n];
+    let o = &outbound[..links];
+    let i = &inbound[..links];
+    let mut offsets = [0u32; 32];
+    let k = lent(room);
+    let answer = answer(call, cycle, r, d, o, i, first, second, &mut offsets[..k]);
+    show(printed::answer_text(answer, n, offsets));
+}
+
+// The public call that a request names.
+fn answer(
+    call: Call,
+    cycle: u32,
+    r: &[u32],
+    d: &[u32],
+    o: &[u32],
+    i: &[u32],
+    first: u32,
+    second: u32,
+    offsets: &mut [u32],
+) -> Answer {
+    match call {
+        Call::Outbound => plans::outbound(cycle, r, d, o, i, first, offsets),
+        Call::Inbound => plans::inbound(cycle, r, d, o, i, first, offsets),
+        Call::Platoons => plans::platoons(cycle, r, d, o, i, first, second, offsets),
+        Call::Equal => plans::equal(cycle, r, d, o, i, offsets),
+        Call::Measure => plans::equal(cycle, r, d, o, i, offsets),
+        Call::Bad => plans::equal(cycle, r, d, o, i, offsets),
+    }
+}
+
 // A request that works on a sheet's numbers, or the reader's refusal.
-fn on_sheet(bytes: &[u8], count: usize, offsets: [u32; 64])
-    requires { ⌜ (count ≤ 64) × (length offsets ≡ 64) ⌝ }
+fn on_sheet(bytes: &[u8], call: Call, room: usize, count: usize, numbers: [u32; 64])
+    requires { ⌜ (count ≤ 64) × (length numbers ≡ 64) ⌝ }
 {
     let reading = sheet::read(bytes);
     let verdict = reading.verdict;
@@ -72,12 +126,16 @@ fn on_sheet(bytes: &[u8], count: usize, offsets: [u32; 64])
         Verdict::Refused(f) => show_refusal(f),
         Verdict::Passed => {
             let s = reading.sheet;
-            measured(s, count, offsets);
+            if let Call::Measure = call {
+                measured(s, count, numbers);
+            } else {
+                planned(s, call, room, numbers[0], numbers[1]);
+            }
         }
     }
 }
 
-// The reply to a case, with its empty line.
+// The reply to a case, with its empty line. `equal` takes the whole way at once, as the program does.
 pub fn reply(case: &[u8]) {
     let asked = requests::request(case);
     let call = asked.call;
@@ -88,7 +146,10 @@ pub fn reply(case: &[u8]) {
             io::write_all(1, b"bad request\n");
         }
         Call::Equal => show(printed::equal_text(&case[at..], asked.room)),
-        Call::Measure => on_sheet(&case[at..], asked.count, numbers),
+        Call::Outbound => on_sheet(&case[at..], call, asked.room, asked.count, numbers),
+        Call::Inbound => on_sheet(&case[at..], call, asked.room, asked.count, numbers),
+        Call::Platoons => on_sheet(&case[at..], call, asked.room, asked.count, numbers),
+        Call::Measure => on_sheet(&case[at..], call, asked.room, asked.count, numbers),
     }
     io::write_all(1, b"\n");
 }

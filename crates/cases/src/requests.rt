@@ -13,6 +13,9 @@ const MAX_NUMBERS: usize = 64;
 pub enum Call {
     Bad,
     Equal,
+    Outbound,
+    Inbound,
+    Platoons,
     Measure,
 }
 
@@ -211,6 +214,18 @@ pub fn request(case: &[u8]) -> Asked
     let equal = past(case, 0, b"equal");
     if equal > 0 {
         return call_with(case, equal, Call::Equal, 0, 0, true);
+    }
+    let outbound = past(case, 0, b"outbound");
+    if outbound > 0 {
+        return call_with(case, outbound, Call::Outbound, 1, 1, true);
+    }
+    let inbound = past(case, 0, b"inbound");
+    if inbound > 0 {
+        return call_with(case, inbound, Call::Inbound, 1, 1, true);
+    }
+    let platoons = past(case, 0, b"platoons");
+    if platoons > 0 {
+        return call_with(case, platoons, Call::Platoons, 2, 2, true);
     }
     let measure = past(case, 0, b"measure");
     if measure > 0 {

@@ -22,3 +22,4 @@ pub mod Stretches
 pub mod Longest
 pub mod Candidates
 pub mod Alike
+pub mod AgreeMoved

@@ -1,6 +1,8 @@
-pub mod Rows
 pub mod SearchLaws
 pub mod Raised
 pub mod OffsetLaws
+pub mod WidthLaws
+pub mod SignedLaws
+pub mod RequestLaws
 pub mod EqualLaws
 pub mod Unique

@@ -1,9 +1,9 @@
 -- The search in naturals: a row's least is its candidate's b(i) raised, and who leads after all candidates is the reference, with B. Assumes nothing.
 use Prim.Native.Nat.{ℕ, _+_, _*_, _≤_, _<_}
-use mathlib.Core.Path.{_≡_, refl, sym, ap, ap₂, _∙_, subst}
+use mathlib.Core.Path.{_≡_, sym, ap, ap₂, _∙_, subst}
 use mathlib.Core.List.{List, []}
 use native.Mathlib.Omega.{arith}
-use lib.IntN.{ℤ, pos, subℕ, _-ℤ_}
+use lib.IntN.{pos, subℕ}
 use lib.ListN.{length, getD, set}
 use borrow.Author.Count.{below-more}
 use lib.Seq.{getD-set-same, getD-set-other}
@@ -16,9 +16,9 @@ use Rattle.circle.proofs.Method.{raised-width}
 use Rattle.circle.proofs.Raised.{Fit, raised, larger-raised, b⁺, b⁺-le, low, top, B-raised, reference-is}
 use Rattle.street.specs.Streets.{timedStreet, Sound}
 use Rattle.street.specs.declared.Street.{Street}
-use Rattle.plans.specs.Search.{lowered, Pair, Row, wider, Searched}
+use Rattle.plans.specs.Search.{lowered, Row, wider, Searched}
 
-lowered-injective : (s : Timed) (x y : ℕ) → lowered s x ≡ subℕ y (halves s) → x ≡ y
+pub lowered-injective : (s : Timed) (x y : ℕ) → lowered s x ≡ subℕ y (halves s) → x ≡ y
 lowered-injective s x y e = sub-injective x y (halves s) (sym (pos-minus x (halves s)) ∙ e)
 
 module _ (s : Timed) (fit : Fit s) where

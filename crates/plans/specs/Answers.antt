@@ -1,6 +1,6 @@
 -- The numbers of an answer, by document 01: a refusal has its code and place and is 0 elsewhere, a plan has code and place 0.
 use Prim.Native.Nat.{ℕ}
-use lib.IntN.{ℤ, pos}
+use lib.IntN.{pos}
 use Rattle.street.specs.Codes.{codeNumber}
 use Rattle.street.specs.declared.Verdict.{Verdict}
 use Rattle.street.specs.declared.Verdict.the-variants as verdict

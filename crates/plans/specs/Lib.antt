@@ -1,3 +1,6 @@
 pub mod Answers
 pub mod Equal
 pub mod Search
+pub mod Moved
+pub mod Requests
+pub mod Steps

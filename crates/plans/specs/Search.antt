@@ -7,8 +7,7 @@ use lib.IntN.{ℤ, pos, _-ℤ_}
 use lib.ListN.{getD}
 use Rattle.circle.specs.Man.{man}
 use Rattle.circle.specs.Signed.{maxℤ}
-use Rattle.circle.specs.Over.{leastBelow}
-use Rattle.circle.specs.Method.{Timed, halves, pairWidth, b, B, reference}
+use Rattle.circle.specs.Method.{Timed, halves, pairWidth, B, reference}
 use Rattle.plans.specs.declared.search.Candidate.{Candidate}
 
 -- a raised number as the signed number that it stands for

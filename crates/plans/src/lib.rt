@@ -1,19 +1,23 @@
-// The plans: from a street's numbers to the reference signal, the widths and each signal's offset (01, 'The equal plan').
+// The plans: from a street's numbers and a request to the reference signal, the widths and each signal's offset (01, 'The equal plan' and
+// 'Moving width').
 mod offsets;
 mod search;
+mod widths;
 
 use street::Refusal;
 use street::Street;
 use street::Verdict;
+use widths::Request;
+use widths::Shift;
 ghost use mathlib.Core.Path.{_≡_};
 ghost use Prim.Native.Nat.{_≤_};
 ghost use lib.IntN.{pos, _-ℤ_};
-ghost use Rattle.circle.specs.Signed.{orZero};
-ghost use Rattle.circle.specs.Method.{B, reference};
 ghost use Rattle.street.specs.Lists.{typed};
-ghost use Rattle.street.specs.Streets.{timedStreet, Sound};
-ghost use Rattle.plans.specs.Equal.{equalPlan, Equal};
-ghost use Rattle.plans.specs.Search.{lowered, Reduced};
+ghost use Rattle.street.specs.Streets.{timedStreet};
+ghost use Rattle.plans.specs.Equal.{Equal};
+ghost use Rattle.plans.specs.Moved.{movedPlan};
+ghost use Rattle.plans.specs.Requests.{Requested};
+ghost use Rattle.plans.specs.Steps.{Ready, shiftWidth};
 
 // A plan's numbers. The reference c is counted from 1. B and the widths are in halves, and B can be negative. `rounded` is m,
 // the number of links with a rounded time. `starts` and `ends` are instants at c, from 0 to H - 1: where the named outbound band
@@ -42,31 +46,54 @@ fn signed(raised: u32, h: u32) -> i32
     (raised as i32) - (h as i32)
 }
 
-// And as the width that is reported: 0 where it is negative.
-fn reported(raised: u32, h: u32) -> u32
-    ensures { λ r. ⌜ r ≡ orZero (pos raised -ℤ pos h) ⌝ }
+// A plan's numbers, from what the search settled on and how far the request moves the equal plan.
+fn numbers(s: Street, x: [u32; 32], c: usize, raised: u32, shift: Shift) -> Plan
+    requires { ⌜ Ready s x c raised × (shiftWidth shift ≤ 12000) ⌝ }
+    ensures { λ r. ⌜ r ≡ movedPlan shift (timedStreet s) (s .rounded) ⌝ }
 {
-    if raised < h {
-        return 0;
-    }
-    raised - h
-}
-
-// The equal plan's numbers, from what the search settled on: the reference's index and B raised.
-fn numbers(s: Street, x: [u32; 32], c: usize, raised: u32) -> Plan
-    requires { ⌜ Sound s × Reduced (timedStreet s) x × (c ≡ reference (timedStreet s)) × (lowered (timedStreet s) raised ≡ B (timedStreet s)) × (raised ≤ 24000) ⌝ }
-    ensures { λ r. ⌜ r ≡ equalPlan (timedStreet s) (s .rounded) ⌝ }
-{
-    let h = 2 * s.cycle;
-    let f = offsets::offset_of(s, x, c, c);
+    let f = offsets::offset_of(s, x, c, raised, shift, c);
+    let reported = widths::reported(s, raised, shift);
     Plan {
         reference: (c + 1) as u32,
-        b: signed(raised, h),
-        outbound: reported(raised, h),
-        inbound: reported(raised, h),
+        b: signed(raised, 2 * s.cycle),
+        outbound: reported.outbound,
+        inbound: reported.inbound,
         rounded: s.rounded,
         starts: offsets::red_end(s, c, f),
         ends: offsets::red_start(s, c, f),
+    }
+}
+
+// The plan of a request, or the first fault of the checks. The search is made once, for every kind of request.
+fn planned(
+    request: Request,
+    cycle: u32,
+    reds: &[u32],
+    distances: &[u32],
+    outbound: &[u32],
+    inbound: &[u32],
+    offsets: &mut [u32],
+) -> Answer
+    ensures { λ r. ⌜ Requested request (typed cycle (now (reds .entry)) (now (distances .entry)) (now (outbound .entry)) (now (inbound .entry))) (now (offsets .entry)) (now (offsets .exit)) r ⌝ }
+{
+    let surveyed = Street::new(cycle, reds, distances, outbound, inbound, offsets.len());
+    let verdict = surveyed.verdict;
+    if let Verdict::Refused(f) = verdict {
+        return Answer::Refused(f);
+    }
+    let s = surveyed.street;
+    let x = search::reduced(s);
+    let found = search::reference(s, x);
+    let c = found.signal;
+    let raised = found.raised;
+    let asked = widths::check(s, raised, request);
+    match asked {
+        Verdict::Refused(f) => Answer::Refused(f),
+        Verdict::Passed => {
+            let shift = widths::settle(s, raised, request);
+            offsets::write(s, x, c, raised, shift, offsets);
+            Answer::Planned(numbers(s, x, c, raised, shift))
+        }
     }
 }
 
@@ -82,18 +109,83 @@ pub fn equal(
 ) -> Answer
     ensures { λ r. ⌜ Equal (typed cycle (now (reds .entry)) (now (distances .entry)) (now (outbound .entry)) (now (inbound .entry))) (now (offsets .entry)) (now (offsets .exit)) r ⌝ }
 {
-    let surveyed = Street::new(cycle, reds, distances, outbound, inbound, offsets.len());
-    let verdict = surveyed.verdict;
-    match verdict {
-        Verdict::Refused(f) => Answer::Refused(f),
-        Verdict::Passed => {
-            let s = surveyed.street;
-            let x = search::reduced(s);
-            let found = search::reference(s, x);
-            let c = found.signal;
-            let raised = found.raised;
-            offsets::write(s, x, c, offsets);
-            Answer::Planned(numbers(s, x, c, raised))
-        }
-    }
+    planned(
+        Request::Equal,
+        cycle,
+        reds,
+        distances,
+        outbound,
+        inbound,
+        offsets,
+    )
+}
+
+// The plan with a requested outbound width in halves (01, 'Moving width').
+pub fn outbound(
+    cycle: u32,
+    reds: &[u32],
+    distances: &[u32],
+    outbound: &[u32],
+    inbound: &[u32],
+    width: u32,
+    offsets: &mut [u32],
+) -> Answer
+    ensures { λ r. ⌜ Requested (Request.Outbound width) (typed cycle (now (reds .entry)) (now (distances .entry)) (now (outbound .entry)) (now (inbound .entry))) (now (offsets .entry)) (now (offsets .exit)) r ⌝ }
+{
+    planned(
+        Request::Outbound(width),
+        cycle,
+        reds,
+        distances,
+        outbound,
+        inbound,
+        offsets,
+    )
+}
+
+// The plan with a requested inbound width in halves.
+pub fn inbound(
+    cycle: u32,
+    reds: &[u32],
+    distances: &[u32],
+    outbound: &[u32],
+    inbound: &[u32],
+    width: u32,
+    offsets: &mut [u32],
+) -> Answer
+    ensures { λ r. ⌜ Requested (Request.Inbound width) (typed cycle (now (reds .entry)) (now (distances .entry)) (now (outbound .entry)) (now (inbound .entry))) (now (offsets .entry)) (now (offsets .exit)) r ⌝ }
+{
+    planned(
+        Request::Inbound(width),
+        cycle,
+        reds,
+        distances,
+        outbound,
+        inbound,
+        offsets,
+    )
+}
+
+// The plan whose widths follow the lengths of the two directions' platoons, in halves (01, 'Platoons P outbound, Q inbound').
+pub fn platoons(
+    cycle: u32,
+    reds: &[u32],
+    distances: &[u32],
+    outbound: &[u32],
+    inbound: &[u32],
+    outbound_platoon: u32,
+    inbound_platoon: u32,
+    offsets: &mut [u32],
+) -> Answer
+    ensures { λ r. ⌜ Requested (Request.Platoons «outbound_platoon» «inbound_platoon») (typed cycle (now (reds .entry)) (now (distances .entry)) (now (outbound .entry)) (now (inbound .entry))) (now (offsets .entry)) (now (offsets .exit)) r ⌝ }
+{
+    planned(
+        Request::Platoons(outbound_platoon, inbound_platoon),
+        cycle,
+        reds,
+        distances,
+        outbound,
+        inbound,
+        offsets,
+    )
 }

@@ -2,15 +2,13 @@
 // sums are reduced to the cycle once; from there a pair costs comparisons and differences alone, no division.
 use street::Street;
 ghost use mathlib.Core.Path.{_≡_};
-ghost use Prim.Native.Nat.{ℕ, _*_, _≤_, _<_};
+ghost use Prim.Native.Nat.{_*_, _≤_, _<_};
 ghost use lib.IntN.{pos, _-ℤ_};
-ghost use lib.ListN.{getD};
 ghost use Rattle.circle.specs.Man.{man};
-ghost use Rattle.circle.specs.Signed.{minℤ, maxℤ};
+ghost use Rattle.circle.specs.Signed.{minℤ, maxℤ, orZero};
 ghost use Rattle.circle.specs.Over.{leastBelow};
-ghost use Rattle.circle.specs.Method.{halves, b, phase, offset};
 ghost use Rattle.street.specs.Streets.{timedStreet, Sound};
-ghost use Rattle.plans.specs.Search.{lowered, pairOf, Reduced, Pair, Row, wider, Searched};
+ghost use Rattle.plans.specs.Search.{pairOf, Reduced, Row, wider, Searched};
 
 // What the search settles on: the reference's index, counted from 0, and B raised by H.
 pub struct Candidate {
@@ -37,7 +35,7 @@ fn back(h: u32, a: u32, b: u32) -> u32
     a + h - b
 }
 
-fn smaller(a: u32, b: u32) -> u32
+pub fn smaller(a: u32, b: u32) -> u32
     ensures { λ r. ⌜ pos r ≡ minℤ (pos a) (pos b) ⌝ }
 {
     if a <= b {
@@ -53,6 +51,16 @@ fn larger(a: u32, b: u32) -> u32
         return b;
     }
     a
+}
+
+// What a has over b, or nothing.
+pub fn surplus(a: u32, b: u32) -> u32
+    ensures { λ r. ⌜ r ≡ orZero (pos a -ℤ pos b) ⌝ }
+{
+    if a < b {
+        return 0;
+    }
+    a - b
 }
 
 // Each signal's place on the cycle: its red less its two sums.

@@ -12,3 +12,5 @@ pub mod Units
 pub mod Whole
 pub mod Replies
 pub mod Tight
+pub mod Moved
+pub mod Rows

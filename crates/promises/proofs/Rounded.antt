@@ -33,7 +33,7 @@ module _ (s : Timed) (ok : Fit s) (red : Stops s) (rise : Rising s) where
   first-red = omega (arith, red 0 (ok .some))
 
   -- a width that some stretch has is no more than the measured one
-  at-least : (w : Way) → Proper w → w .signals ≡ s .signals → w .length 0 ≡ 2 * s .red 0 → (v : ℕ) → (1 ≤ v → (x : ℕ) × (x < w .around) × Passes w x v) → v ≤ width w
+  pub at-least : (w : Way) → Proper w → w .signals ≡ s .signals → w .length 0 ≡ 2 * s .red 0 → (v : ℕ) → (1 ≤ v → (x : ℕ) × (x < w .around) × Passes w x v) → v ≤ width w
   at-least w proper n first v has = go (decLe 1 v)
     where
       go : Dec (1 ≤ v) → v ≤ width w
@@ -86,7 +86,7 @@ module _ (s : Timed) (ok : Fit s) (red : Stops s) (rise : Rising s) where
       width-least (outboundWay s f) out 0 (ok .some) first-red x k q))
 
 -- a departure less than v behind an instant at c lies in the stretch of v whose start, moved by a, comes by at that instant
-inside : (w : Way) → Proper w → (c instant a v x : ℕ) → ((x₀ : ℕ) → Turns (w .around) (x₀ + a + w .lag c) instant → Passes w x₀ v) → behind w c instant (x + a) < v → clear w x ≡ true
+pub inside : (w : Way) → Proper w → (c instant a v x : ℕ) → ((x₀ : ℕ) → Turns (w .around) (x₀ + a + w .lag c) instant → Passes w x₀ v) → behind w c instant (x + a) < v → clear w x ≡ true
 inside w proper c instant a v x named l =
     let k = behind w c instant (x + a) in
     let below = man-lt (w .around) (pos (x + a + w .lag c) -ℤ pos instant) (proper .turns) in

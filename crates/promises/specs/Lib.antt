@@ -2,3 +2,4 @@ pub mod Rounded
 pub mod Exact
 pub mod Rounding
 pub mod Tight
+pub mod Moved

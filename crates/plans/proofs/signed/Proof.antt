@@ -1,6 +1,6 @@
 -- `plans::signed` meets its contract: both numbers are small, so that the casts and the difference keep them. Assumes nothing.
 use borrow.Author.Needs.{needs}
-use Rattle.plans.proofs.EqualLaws.{signed-fits, signed-is}
+use Rattle.plans.proofs.SignedLaws.{signed-fits, signed-is}
 use Rattle.plans.proofs.signed.Statement.{statement}
 use Rattle.plans.proofs.signed.Tie as tie
 

@@ -16,14 +16,29 @@ show-refusal-requires c κs = search needs
 enum-told : tie.Need-enum-told
 enum-told c = search needs
 
+enum-told-2 : tie.Need-enum-told-2
+enum-told-2 c = search needs
+
 measured-requires : tie.Need-measured-requires
-measured-requires c κs = (reading-held (c .before .before .before .before .before .args .bytes .now) (c .before .before .before .read .result) (c .before .before .before .read .ensures) (c .before .enum-told .given .1), c .before .before .before .before .before .pre .0, c .before .before .before .before .before .pre .1)
+measured-requires c κs = (reading-held (c .before .before .before .before .before .before .before .args .bytes .now) (c .before .before .before .before .before .read .result) (c .before .before .before .before .before .read .ensures) (c .before .before .before .enum-told .given .1), c .before .before .before .before .before .before .before .pre .0, c .before .before .before .before .before .before .before .pre .1)
+
+array-read-planned : tie.Need-array-read-planned
+array-read-planned c = search needs
+
+array-read-planned-2 : tie.Need-array-read-planned-2
+array-read-planned-2 c = search needs
+
+planned-requires : tie.Need-planned-requires
+planned-requires c κs = reading-held (c .before .before .before .before .before .before .args .bytes .now) (c .before .before .before .before .read .result) (c .before .before .before .before .read .ensures) (c .before .before .enum-told .given .1)
 
 returns : tie.Need-returns
 returns c = search needs
 
 returns-2 : tie.Need-returns-2
 returns-2 c = search needs
+
+returns-3 : tie.Need-returns-3
+returns-3 c = search needs
 
 pub on-sheet-spec : {M : Type 1} → statement M
 on-sheet-spec =
@@ -33,6 +48,11 @@ on-sheet-spec =
     enum-known-verdict
     show-refusal-requires
     enum-told
+    enum-told-2
     measured-requires
+    array-read-planned
+    array-read-planned-2
+    planned-requires
     returns
-    returns-2)
+    returns-2
+    returns-3)

@@ -49,6 +49,51 @@ part-on-sheet-end c = search needs
 on-sheet-requires : tie.Need-on-sheet-requires
 on-sheet-requires c κs = search needs
 
+enum-told-4 : tie.Need-enum-told-4
+enum-told-4 c = search needs
+
+sub-on-sheet-2 : tie.Need-sub-on-sheet-2
+sub-on-sheet-2 c = search needs
+
+part-on-sheet-start-2 : tie.Need-part-on-sheet-start-2
+part-on-sheet-start-2 c = search needs
+
+part-on-sheet-end-2 : tie.Need-part-on-sheet-end-2
+part-on-sheet-end-2 c = search needs
+
+on-sheet-requires-2 : tie.Need-on-sheet-requires-2
+on-sheet-requires-2 c κs = search needs
+
+enum-told-5 : tie.Need-enum-told-5
+enum-told-5 c = search needs
+
+sub-on-sheet-3 : tie.Need-sub-on-sheet-3
+sub-on-sheet-3 c = search needs
+
+part-on-sheet-start-3 : tie.Need-part-on-sheet-start-3
+part-on-sheet-start-3 c = search needs
+
+part-on-sheet-end-3 : tie.Need-part-on-sheet-end-3
+part-on-sheet-end-3 c = search needs
+
+on-sheet-requires-3 : tie.Need-on-sheet-requires-3
+on-sheet-requires-3 c κs = search needs
+
+enum-told-6 : tie.Need-enum-told-6
+enum-told-6 c = search needs
+
+sub-on-sheet-4 : tie.Need-sub-on-sheet-4
+sub-on-sheet-4 c = search needs
+
+part-on-sheet-start-4 : tie.Need-part-on-sheet-start-4
+part-on-sheet-start-4 c = search needs
+
+part-on-sheet-end-4 : tie.Need-part-on-sheet-end-4
+part-on-sheet-end-4 c = search needs
+
+on-sheet-requires-4 : tie.Need-on-sheet-requires-4
+on-sheet-requires-4 c κs = search needs
+
 slice-aggregate-write-all-2 : tie.Need-slice-aggregate-write-all-2
 slice-aggregate-write-all-2 c = search needs
 
@@ -77,6 +122,21 @@ reply-spec =
     part-on-sheet-start
     part-on-sheet-end
     on-sheet-requires
+    enum-told-4
+    sub-on-sheet-2
+    part-on-sheet-start-2
+    part-on-sheet-end-2
+    on-sheet-requires-2
+    enum-told-5
+    sub-on-sheet-3
+    part-on-sheet-start-3
+    part-on-sheet-end-3
+    on-sheet-requires-3
+    enum-told-6
+    sub-on-sheet-4
+    part-on-sheet-start-4
+    part-on-sheet-end-4
+    on-sheet-requires-4
     slice-aggregate-write-all-2
     write-all-requires-2
     returns)

@@ -1,11 +1,11 @@
 -- `plans::search::back` meets its contract: on the cycle one comparison does for the division. Assumes nothing.
 use borrow.Author.Needs.{needs}
-use Rattle.plans.proofs.SearchLaws.{back-within, back-round}
+use Rattle.circle.proofs.Rounds.{since-within, since-round}
 use Rattle.plans.proofs.search.back.Statement.{statement}
 use Rattle.plans.proofs.search.back.Tie as tie
 
 returns : tie.Need-returns
-returns c = back-within _ _ _ (c .before .pre .1) (c .if1 .taken)
+returns c = since-within _ _ _ (c .before .pre .1) (c .if1 .taken)
 
 add-result : tie.Need-add-result
 add-result c = search needs
@@ -14,7 +14,7 @@ sub-result : tie.Need-sub-result
 sub-result c = search needs
 
 returns-2 : tie.Need-returns-2
-returns-2 c = back-round _ _ _ (c .before .pre .2) (c .if1 .left)
+returns-2 c = since-round _ _ _ (c .before .pre .2) (c .if1 .left)
 
 pub back-spec : {M : Type 1} → statement M
 back-spec = tie.close (tie.spec returns add-result sub-result returns-2)

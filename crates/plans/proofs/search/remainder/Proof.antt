@@ -2,7 +2,7 @@
 use native.Mathlib.Nat.{mod-lt}
 use native.Mathlib.Omega.{arith}
 use borrow.Author.Needs.{needs}
-use Rattle.plans.proofs.SearchLaws.{remainder-man}
+use Rattle.circle.proofs.Rounds.{remainder-man}
 use Rattle.plans.proofs.search.remainder.Statement.{statement}
 use Rattle.plans.proofs.search.remainder.Tie as tie
 

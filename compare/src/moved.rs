@@ -1,0 +1,96 @@
+//! Every plan that can be asked for: the equal one, one with a requested width, and one from two platoon lengths.
+
+use crate::equal::{equal, Pairs, Plan};
+use crate::street::{refusal, Refusal, Street};
+use std::fmt::{Display, Formatter};
+
+pub const MAX_PLATOON: i64 = 100_000;
+
+/// What a plan is asked for, in halves.
+#[derive(Clone, Copy, Debug, PartialEq)]
+pub enum Ask {
+    Equal,
+    Outbound(i64),
+    Inbound(i64),
+    Platoons(i64, i64),
+}
+
+impl Display for Ask {
+    fn fmt(&self, text: &mut Formatter) -> std::fmt::Result {
+        match self {
+            Ask::Equal => write!(text, "equal"),
+            Ask::Outbound(width) => write!(text, "outbound {width}"),
+            Ask::Inbound(width) => write!(text, "inbound {width}"),
+            Ask::Platoons(out, back) => write!(text, "platoons {out} {back}"),
+        }
+    }
+}
+
+/// g: the shortest green of the street, which no band is wider than.
+pub fn shortest_green(street: &Street) -> i64 {
+    street.reds.iter().map(|red| street.halves() - 2 * red).min().expect("a street has a signal")
+}
+
+/// The width that two platoons ask for, and the side that gets it.
+pub fn platoon_rule(out: i64, back: i64, best: i64, g: i64) -> Ask {
+    if out == back {
+        return Ask::Equal;
+    }
+    let (larger, sum) = (out.max(back), out + back);
+    let width = if sum <= 2 * best {
+        (2 * best * larger / sum).min(g)
+    } else if 2 * best - larger.min(g) <= 0 {
+        g
+    } else {
+        larger.min(g)
+    };
+    if out > back {
+        Ask::Outbound(width)
+    } else {
+        Ask::Inbound(width)
+    }
+}
+
+fn platoon_fault(ask: Ask) -> Option<Refusal> {
+    match ask {
+        Ask::Platoons(out, _) if out > MAX_PLATOON => Some(refusal(8, 1)),
+        Ask::Platoons(_, back) if back > MAX_PLATOON => Some(refusal(8, 2)),
+        _ => None,
+    }
+}
+
+/// The plan of a street for what is asked, with a lent list of `room` entries, or the first fault.
+pub fn plan(street: &Street, ask: Ask, room: usize) -> Result<Plan, Refusal> {
+    let plan = equal(street, room)?;
+    if let Some(refusal) = platoon_fault(ask) {
+        return Err(refusal);
+    }
+    let ask = match ask {
+        Ask::Platoons(out, back) => platoon_rule(out, back, plan.best, shortest_green(street)),
+        _ => ask,
+    };
+    match ask {
+        Ask::Outbound(width) | Ask::Inbound(width) => moved(street, plan, ask, width),
+        _ => Ok(plan),
+    }
+}
+
+/// The equal plan with its width moved to the side that asks for it.
+fn moved(street: &Street, plan: Plan, ask: Ask, width: i64) -> Result<Plan, Refusal> {
+    let (best, halves) = (plan.best, street.halves());
+    if width < best.max(1) || width > shortest_green(street) {
+        return Err(refusal(9, 0));
+    }
+    let pairs = Pairs::of(street);
+    let (c, _) = pairs.reference();
+    let outwards = ask == Ask::Outbound(width);
+    let lowering = |j: usize| {
+        let u = pairs.chosen(c, j);
+        let by = if outwards { u - halves + width - best } else { width + 2 * street.reds[j] - u };
+        by.max(0)
+    };
+    let other = (2 * best - width).max(0);
+    let (outbound, inbound) = if outwards { (width, other) } else { (other, width) };
+    let offsets = (0..street.signals()).map(|j| (plan.offsets[j] - lowering(j)).rem_euclid(halves)).collect();
+    Ok(Plan { outbound, inbound, offsets, ..plan })
+}

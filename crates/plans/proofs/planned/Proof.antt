@@ -1,0 +1,143 @@
+-- `plans::planned` meets its contract: a refusal by the verdict of the plan's checks or of the request's; a plan by what the search, the shift, the offsets and the numbers
+-- ensure of the street that passed, carried over to the typed lists. Assumes nothing.
+use mathlib.Core.Path.{_≡_, sym, subst, _∙_}
+use Prim.Native.Nat.{ℕ, _≤_}
+use mathlib.Core.List.{List}
+use lib.ListN.{length}
+use Rattle.street.specs.Lists.{Lists, typed}
+use Rattle.street.specs.Checks.{planChecks}
+use Rattle.street.specs.Streets.{streetOf, timedStreet, Sound}
+use Rattle.street.specs.declared.Surveyed.{Surveyed}
+use Rattle.street.specs.declared.Verdict.the-variants.{Passed}
+use Rattle.plans.specs.Requests.{requestCheck}
+use Rattle.plans.specs.Steps.{Ready, shiftWidth}
+use Rattle.plans.proofs.RequestLaws.{shift-small, verdict-checks, passed-street, passed-sound, passed-room, requested-refused, asked-refused, requested-planned}
+use borrow.Author.Needs.{needs}
+use Rattle.plans.proofs.planned.Statement.{statement}
+use Rattle.plans.proofs.planned.Tie as tie
+
+-- the lists as they were typed, and the lent list
+abbrev lists : tie.Start → Lists
+lists c = typed (c .args .cycle) (c .args .reds .now) (c .args .distances .now) (c .args .outbound .now) (c .args .inbound .now)
+
+abbrev lent : tie.Start → List ℕ
+lent c = c .args .offsets .now
+
+-- once the street is out: the function's entry and the constructor's answer; the checks passed, so that it is the street of the lists and sound, and the lent list has room
+abbrev entry : tie.After-s → tie.Start
+entry c = c .before .before .before .before .before .before .before .before .before
+
+abbrev survey : tie.After-s → Surveyed
+survey c = c .before .before .before .new .result
+
+passed : (c : tie.After-s) → planChecks (lists (entry c)) (length (lent (entry c))) ≡ Passed
+passed c =
+    verdict-checks (lists (entry c)) (length (lent (entry c))) (survey c) Passed (c .before .before .before .new .ensures) (c .before .enum-told .given .1)
+
+street-is : (c : tie.After-s) → survey c .street ≡ streetOf (lists (entry c))
+street-is c = passed-street (lists (entry c)) (length (lent (entry c))) (survey c) (c .before .before .before .new .ensures) (passed c)
+
+street-sound : (c : tie.After-s) → Sound (survey c .street)
+street-sound c = passed-sound (lists (entry c)) (length (lent (entry c))) (survey c .street) (street-is c) (passed c)
+
+room : (c : tie.After-s) → survey c .street .signals ≤ length (lent (entry c))
+room c = passed-room (lists (entry c)) (length (lent (entry c))) (survey c .street) (street-is c) (passed c)
+
+-- after the search, all that a plan is made from
+ready : (c : tie.After-reference) → Ready (survey (c .before .before) .street) (c .before .reduced .result) (c .reference .result .signal) (c .reference .result .raised)
+ready c =
+    let r = c .reference .ensures in
+    record {
+      base = record { sound = street-sound (c .before .before); width = r .width; small = r .small };
+      places = c .before .reduced .ensures;
+      found = r .found;
+    }
+
+-- a request that passed its check, and the width of its shift
+abbrev out : tie.After-enum-told2 → tie.After-s
+out c = c .before .before .before .before .before
+
+asked-passed : (c : tie.After-enum-told2) → requestCheck (entry (out c) .args .request) (timedStreet (survey (out c) .street)) ≡ Passed
+asked-passed c = sym (c .before .before .check .ensures) ∙ c .enum-told2 .given .1
+
+narrow : (c : tie.After-settle) → shiftWidth (c .settle .result) ≤ 12000
+narrow c =
+    let s = out (c .before) in
+    subst (λ x. shiftWidth x ≤ 12000) (sym (c .settle .ensures))
+    (shift-small (survey s .street) (entry s .args .request) (street-sound s) (asked-passed (c .before)))
+
+new-requires : tie.Need-new-requires
+new-requires c κs = search needs
+
+enum-known-verdict : tie.Need-enum-known-verdict
+enum-known-verdict c = search needs
+
+returns : tie.Need-returns
+returns c =
+    let c0 = c .before .before .before .before .before .before .before .before .before in
+    requested-refused (c0 .args .request) (lists c0) (lent c0) _ (verdict-checks (lists c0) (length (lent c0)) (c .before .before .before .new .result) _ (c .before .before .before .new .ensures) (c .before .verdict .given .1))
+
+enum-told : tie.Need-enum-told
+enum-told c = search needs
+
+reduced-requires : tie.Need-reduced-requires
+reduced-requires c κs = street-sound c
+
+reference-requires : tie.Need-reference-requires
+reference-requires c κs = (street-sound (c .before), c .reduced .ensures)
+
+check-requires : tie.Need-check-requires
+check-requires c κs = ready c .base
+
+enum-known-asked : tie.Need-enum-known-asked
+enum-known-asked c = search needs
+
+enum-told-2 : tie.Need-enum-told-2
+enum-told-2 c = search needs
+
+settle-requires : tie.Need-settle-requires
+settle-requires c κs = (ready (c .before .before .before) .base, asked-passed c)
+
+write-requires : tie.Need-write-requires
+write-requires c κs = (ready (c .before .before .before .before .before), narrow (c .before), room (c .before .before .before .before .before .before .before))
+
+numbers-requires : tie.Need-numbers-requires
+numbers-requires c κs = (ready (c .before .before .before .before .before .before .before .before), narrow (c .before .before .before .before))
+
+returns-2 : tie.Need-returns-2
+returns-2 c =
+    let s = c .before .before .before .before .before .before in
+    let c0 = entry s in
+    asked-refused (c0 .args .request) (lists c0) (lent c0) (survey s .street) _ (passed s) (street-is s) (sym (c .before .before .before .check .ensures) ∙ c .before .asked .given .1)
+
+same-length : tie.Need-same-length
+same-length c = search needs
+
+returns-3 : tie.Need-returns-3
+returns-3 c =
+    let asked = c .before .before .before .before .before .before in
+    let s = out asked in
+    let c0 = entry s in
+    let shift = c .before .before .before .before .before .settle in
+    let wrote = c .before .before .before .write in
+    requested-planned (c0 .args .request) (lists c0) (lent c0) (wrote .last .1 .1 .1 .1 .1 .0) (survey s .street) (shift .result) (c .numbers .result) (passed s) (street-is s) (asked-passed asked) (shift .ensures) (wrote .ensures) (c .numbers .ensures)
+
+pub planned-spec : {M : Type 1} → statement M
+planned-spec =
+    tie.close
+    (tie.spec
+    new-requires
+    enum-known-verdict
+    returns
+    enum-told
+    reduced-requires
+    reference-requires
+    check-requires
+    enum-known-asked
+    enum-told-2
+    settle-requires
+    write-requires
+    numbers-requires
+    returns-2
+    same-length
+    returns-3)

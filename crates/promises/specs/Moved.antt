@@ -1,0 +1,50 @@
+-- What is promised of a plan with a requested width, and of one from two platoons, at rounded times (01, 'Moving width'). `Shift` says how far a plan moves the equal plan: not at
+-- all, or so that one direction has a width.
+use Prim.Native.Nat.{ℕ, _+_, _*_, _≤_, _<_}
+use mathlib.Core.Path.{_≡_}
+use mathlib.Core.Bool.{true}
+use Rattle.circle.specs.Method.{Timed, inUnits, reference, redEnd, redStart}
+use Rattle.circle.specs.Bands.{clear, width, outboundWay, inboundWay}
+use Rattle.circle.specs.Moved.{inRange, otherWidth}
+use Rattle.plans.specs.Moved.{platoonShift, movedOffset, outboundWidth, inboundWidth}
+use Rattle.plans.specs.declared.widths.Shift.{Shift}
+use Rattle.plans.specs.declared.widths.Shift.the-variants.{Unmoved, Outbound, Inbound}
+use Rattle.promises.specs.Rounded.{InsideFrom, InsideTo}
+
+-- a shift to a width in range; the equal plan asks for none
+abbrev pub InRange : Timed → Shift → Type 0
+InRange s Unmoved = Unit
+InRange s (Outbound w) = inRange s w ≡ true
+InRange s (Inbound w) = inRange s w ≡ true
+
+-- what platoons ask for is always in range, so that code 9 never comes from them; and so each promise below is one of platoon plans too
+abbrev pub PlatoonsInRange : Timed → Type 0
+PlatoonsInRange s = (P Q : ℕ) → InRange s (platoonShift s P Q)
+
+-- every departure inside a named band meets no red: the outbound one starts at c as c's red ends, the inbound one ends at c as c's red starts, each as wide as reported
+abbrev pub MovedClear : Timed → Type 0
+MovedClear s =
+    (shift : Shift) → InRange s shift →
+    ((x : ℕ) → InsideFrom (outboundWay s (movedOffset shift s)) (reference s) (redEnd s (reference s) (movedOffset shift s (reference s))) (outboundWidth shift s) x → clear (outboundWay s (movedOffset shift s)) x ≡ true)
+    × ((y : ℕ) → InsideTo (inboundWay s (movedOffset shift s)) (reference s) (redStart s (reference s) (movedOffset shift s (reference s))) (inboundWidth shift s) y → clear (inboundWay s (movedOffset shift s)) y ≡ true)
+
+-- where both reported widths are above 0 they are the measured ones
+abbrev pub MovedMeasured : Timed → Type 0
+MovedMeasured s =
+    (shift : Shift) → InRange s shift → 1 ≤ outboundWidth shift s → 1 ≤ inboundWidth shift s →
+    (width (outboundWay s (movedOffset shift s)) ≡ outboundWidth shift s)
+    × (width (inboundWay s (movedOffset shift s)) ≡ inboundWidth shift s)
+
+-- the measured widths are never below the reported ones; so the favoured direction has the width that was asked for
+abbrev pub AsWideAsReported : Timed → Type 0
+AsWideAsReported s =
+    (shift : Shift) → InRange s shift →
+    (outboundWidth shift s ≤ width (outboundWay s (movedOffset shift s)))
+    × (inboundWidth shift s ≤ width (inboundWay s (movedOffset shift s)))
+
+-- no offsets, in whole halves (N = 1) or in a unit of which N make a half, with a band of at least w one way give a greater width the other way than is reported beside w
+abbrev pub NoneBesides : Timed → Type 0
+NoneBesides s =
+    (N w : ℕ) (f : ℕ → ℕ) → 0 < N → 1 ≤ w →
+    (N * w ≤ width (outboundWay (inUnits N s) f) → width (inboundWay (inUnits N s) f) ≤ N * otherWidth s w)
+    × (N * w ≤ width (inboundWay (inUnits N s) f) → width (outboundWay (inUnits N s) f) ≤ N * otherWidth s w)
