@@ -9,16 +9,16 @@ use native.Mathlib.Omega.{arith}
 use lib.ListN.{length, getD}
 use lib.Dec.{eqb}
 use borrow.Author.Tests.{eq-eqb, ne-eqb, le-leb, leb-false}
-use Rattle.circle.specs.Over.{Found, nowhere, at, firstBelow}
+use Rattle.circle.specs.Over.{firstBelow}
 use Rattle.circle.proofs.Over.{first-none}
 use Rattle.street.specs.Limits.{minSignals, maxSignals}
 use Rattle.street.specs.Lists.{Lists, signals}
-use Rattle.street.specs.Checks.{_and_, within, refuse, unless, faultAt, orNext, firstFault, countCheck, roomCheck, cycleCheck, redCheck, distanceCheck, speedCheck, planChecks}
-use Rattle.street.specs.declared.Code.{Code}
+use Rattle.street.specs.Checks.{_and_, within, refuse, unless, orNext, firstFault, countCheck, roomCheck, cycleCheck, redCheck, distanceCheck, speedCheck, planChecks}
 use Rattle.street.specs.declared.Code.the-variants.{Count, Room, Offset}
 use Rattle.street.specs.declared.Street.{Street}
 use Rattle.street.specs.declared.Verdict.{Verdict}
 use Rattle.street.proofs.CheckLaws.{last-check}
+use Rattle.street.proofs.Passed.{no-fault}
 use Rattle.street.specs.declared.Verdict.the-variants as verdict
 use Rattle.bands.specs.Search.{Placed}
 use Rattle.bands.specs.Measure.{sizeCheck, badOffset, offsetCheck, measureChecks}
@@ -67,10 +67,6 @@ module _ (l : Lists) (offsets : List ℕ) where
       ∙ ap (λ t. orNext (orNext counts (orNext (unless t Room) (firstFault (ranges [])))) last) (sym (le-leb (signals l) (signals l) self))
 
 -- the offsets' check passed: each is on the cycle
-no-fault : (code : Code) (f : Found) → faultAt code f ≡ verdict.Passed → f ≡ nowhere
-no-fault code nowhere e = refl
-no-fault code (at i) e = let z : _≡_ {A = ℕ} 0 1 = cc in absurd (omega arith)
-
 pub placed-on : (s : Street) (offsets : List ℕ) → length offsets ≡ s .signals → offsetCheck (s .cycle) offsets ≡ verdict.Passed → Placed s offsets
 unfolding offsetCheck
 placed-on s offsets count e =

@@ -1,14 +1,14 @@
 -- From the street that the search works on to the measure of the typed lists. Seen from where it departs, a direction has the band of its way; the street and the lists agree
 -- at every signal, so their bands are the same. The call answers by the checks, or with these bands. Assumes nothing.
 use Prim.Native.Nat.{ℕ, zero, suc, _+_, _-_, _*_, _≤_, _<_}
-use mathlib.Core.Path.{_≡_, refl, sym, ap, _∙_, subst}
+use mathlib.Core.Path.{_≡_, sym, ap, _∙_, subst}
 use mathlib.Core.List.{List}
 use mathlib.Core.Logic.{⊎-elim}
 use native.Mathlib.Omega.{arith}
 use native.Mathlib.Nat.{eq-or-lt-of-le, le-of-suc-le-suc}
 use lib.IntN.{pos, _-ℤ_}
 use lib.ListN.{length, getD, drop, replicate}
-use Rattle.circle.specs.Over.{at, sumBelow}
+use Rattle.circle.specs.Over.{sumBelow}
 use Rattle.circle.specs.Method.{Timed, halves, redStart}
 use Rattle.circle.specs.Bands.{Way, outboundWay, inboundWay}
 use Rattle.circle.proofs.Man.{man-lt}
@@ -16,14 +16,12 @@ use Rattle.circle.proofs.Over.{getD-listBelow}
 use Rattle.circle.proofs.Alike.{outbound-alike, inbound-alike}
 use Rattle.street.specs.Limits.{maxSignals}
 use Rattle.street.specs.Lists.{Lists, signals}
-use Rattle.street.specs.Checks.{_and_, orNext, planChecks}
+use Rattle.street.specs.Checks.{orNext, planChecks}
 use Rattle.street.specs.Times.{timed, linkTicks}
-use Rattle.street.specs.Streets.{padded, streetOf, surveyed, surveyedAs, timedStreet, Sound}
+use Rattle.street.specs.Streets.{padded, streetOf, timedStreet, Sound}
 use Rattle.street.specs.declared.Code.the-variants.{Count}
 use Rattle.street.specs.declared.Refusal.{Refusal}
 use Rattle.street.specs.declared.Street.{Street}
-use Rattle.street.specs.declared.Surveyed.{Surveyed}
-use Rattle.street.specs.declared.Verdict.{Verdict}
 use Rattle.street.proofs.Sound.{sound, street-agrees}
 use Rattle.street.specs.declared.Verdict.the-variants as verdict
 use Rattle.bands.specs.declared.Band.{Band}
@@ -118,20 +116,6 @@ module _ (l : Lists) (offsets : List ℕ) where
       ∙ ap (foundOr (offsetCheck (l .cycle) offsets)) (measured-agree l (signals l) offsets passed)
       ∙ sym (ap (λ v. foundOr v (measuredOf (timed l) offsets)) (checks-full l offsets e ∙ ap (λ v. orNext v (offsetCheck (l .cycle) offsets)) passed))
 
--- what the constructor's answer tells of the checks
-pub survey-verdict : (l : Lists) (room : ℕ) (x : Surveyed) (v : Verdict) → x ≡ surveyed l room → x .verdict ≡ v → planChecks l room ≡ v
-survey-verdict l room x v e told = sym (tells (planChecks l room)) ∙ ap (λ y. y .verdict) (sym e) ∙ told
-  where
-    tells : (p : Verdict) → surveyedAs p (streetOf l) .verdict ≡ p
-    tells verdict.Passed = refl
-    tells (verdict.Refused f) = refl
-
-pub survey-street : (l : Lists) (room : ℕ) (x : Surveyed) → x ≡ surveyed l room → planChecks l room ≡ verdict.Passed → x .street ≡ streetOf l
-survey-street l room x e passed = ap (λ y. y .street) e ∙ ap (λ p. surveyedAs p (streetOf l) .street) passed
-
--- and what holds of a street that passed
-pub survey-sound : (l : Lists) (room : ℕ) (s : Street) → s ≡ streetOf l → planChecks l room ≡ verdict.Passed → Sound s
-survey-sound l room s e passed = subst Sound (sym e) (sound l room passed)
-
+-- the street of a survey that passed
 pub survey-onward : (l : Lists) (room : ℕ) (s : Street) → s ≡ streetOf l → planChecks l room ≡ verdict.Passed → Onward s
 survey-onward l room s e passed = subst Onward (sym e) (onward l (omega (arith, sound l room passed .some)))

@@ -7,10 +7,10 @@ use lib.IntN.{pos, _+ℤ_, _-ℤ_}
 use lib.Dec.{eqb}
 use Rattle.circle.specs.Signed.{leℤ, maxℤ, orZero}
 use Rattle.circle.specs.Over.{leastBelow}
-use Rattle.circle.specs.Method.{Timed, halves, u, pairWidth, reference, phase, offset}
+use Rattle.circle.specs.Method.{Timed, halves, u, reference, phase, offset}
 use Rattle.circle.specs.Moved.{g, inRange, chosen, outboundLowering, inboundLowering, lowered, otherWidth, platoonWidth}
 use Rattle.circle.proofs.Over.{least-ext}
-use Rattle.circle.proofs.Method.{Agree, B-agree, reference-agree, reference-lt, offset-agree}
+use Rattle.circle.proofs.Method.{Agree, B-agree, reference-agree, reference-lt, offset-agree, u-agree, phase-agree}
 
 module _ (s z : Timed) (agree : Agree s z) where
   pub g-agree : g s ≡ g z
@@ -40,23 +40,13 @@ module _ (s z : Timed) (agree : Agree s z) where
       (B-agree s z agree)
       g-agree
 
-  u-at : (i j e : ℕ) → i < s .signals → j < s .signals → u s i j e ≡ u z i j e
-  unfolding u
-  u-at i j e li lj =
-      cc (agree .cycle, agree .red i li, agree .red j lj, agree .outbound i li, agree .outbound j lj, agree .inbound i li, agree .inbound j lj)
-
-  phase-at : (c j : ℕ) → c < s .signals → j < s .signals → phase s c j ≡ phase z c j
-  unfolding phase pairWidth
-  phase-at c j lc lj =
-      cc (agree .cycle, agree .red j lj, u-at c j 0 lc lj, u-at c j (s .cycle) lc lj)
-
   module _ (some : 0 < s .signals) where
     chosen-agree : (j : ℕ) → j < s .signals → chosen s j ≡ chosen z j
     unfolding chosen
     chosen-agree j l =
         let c = reference-lt s some in
-        u-at (reference s) j (phase s (reference s) j) c l
-        ∙ ap (u z (reference s) j) (phase-at (reference s) j c l)
+        u-agree s z agree (reference s) j (phase s (reference s) j) c l
+        ∙ ap (u z (reference s) j) (phase-agree s z agree (reference s) j c l)
         ∙ ap (λ (i : ℕ). u z i j (phase z i j)) (reference-agree s z agree)
 
     pub outboundLowering-agree : (w j : ℕ) → j < s .signals → outboundLowering s w j ≡ outboundLowering z w j

@@ -70,7 +70,7 @@ pub record Agree (s z : Timed) : Type 0 where
   pub inbound : (k : ℕ) → k < s .signals → s .inbound k ≡ z .inbound k
 
 module _ (s z : Timed) (agree : Agree s z) where
-  u-agree : (i j e : ℕ) → i < s .signals → j < s .signals → u s i j e ≡ u z i j e
+  pub u-agree : (i j e : ℕ) → i < s .signals → j < s .signals → u s i j e ≡ u z i j e
   unfolding u
   u-agree i j e li lj =
       cc (agree .cycle, agree .red i li, agree .red j lj, agree .outbound i li, agree .outbound j lj, agree .inbound i li, agree .inbound j lj)
@@ -98,7 +98,7 @@ module _ (s z : Timed) (agree : Agree s z) where
       (first-ext (s .signals) (λ i. eqℤ (b s i) (B s)) (λ i. eqℤ (b z i) (B z)) (λ i li. ap₂ eqℤ (b-agree i li) B-agree)
       ∙ ap (λ (n : ℕ). firstBelow n (λ i. eqℤ (b z i) (B z))) (agree .signals))
 
-  phase-agree : (c j : ℕ) → c < s .signals → j < s .signals → phase s c j ≡ phase z c j
+  pub phase-agree : (c j : ℕ) → c < s .signals → j < s .signals → phase s c j ≡ phase z c j
   unfolding phase
   phase-agree c j lc lj =
       ap₂ (λ p (e : ℕ). cond p 0 e)

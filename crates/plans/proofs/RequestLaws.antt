@@ -1,7 +1,7 @@
 -- From the street that the search worked on to the typed lists: the two agree at every signal, so a request's check, its shift, the plan's numbers and its offsets are those
 -- of the lists; and what a call answers and leaves behind, for each refusal and for a plan. No shift is wider than the cycle. Assumes nothing.
 use Prim.Native.Nat.{ℕ, _+_, _≤_, _<_}
-use mathlib.Core.Path.{_≡_, refl, sym, ap, ap₂, _∙_, subst}
+use mathlib.Core.Path.{_≡_, refl, sym, ap, ap₂, _∙_}
 use mathlib.Core.Bool.{Bool, true, false, cond}
 use mathlib.Core.List.{List, [], _∷_, _++_}
 use native.Mathlib.Omega.{arith}
@@ -19,14 +19,13 @@ use Rattle.street.specs.Limits.{maxPlatoon}
 use Rattle.street.specs.Lists.{Lists, signals}
 use Rattle.street.specs.Checks.{refuse, unless, orNext, firstFault, planChecks}
 use Rattle.street.specs.Times.{timed, m}
-use Rattle.street.specs.Streets.{streetOf, surveyed, surveyedAs, timedStreet, Sound}
+use Rattle.street.specs.Streets.{streetOf, timedStreet, Sound}
 use Rattle.street.specs.declared.Code.the-variants.{Platoon, Width}
 use Rattle.street.specs.declared.Street.{Street}
-use Rattle.street.specs.declared.Surveyed.{Surveyed}
 use Rattle.street.specs.declared.Verdict.{Verdict}
 use Rattle.street.specs.declared.Verdict.the-variants as verdict
 use Rattle.street.specs.declared.Refusal.{Refusal}
-use Rattle.street.proofs.Passed.{clear}
+use Rattle.street.proofs.Passed.{first-passed, rest-passed, clear}
 use Rattle.street.proofs.Sound.{sound, street-agrees}
 use Rattle.plans.specs.Answers.{answered}
 use Rattle.plans.specs.Equal.{written}
@@ -49,14 +48,6 @@ short-enough place P e = leb-true P maxPlatoon (go (leb P maxPlatoon) e)
     go : (t : Bool) → cond t verdict.Passed (refuse Platoon place) ≡ verdict.Passed → t ≡ true
     go true q = refl
     go false q = let z : _≡_ {A = ℕ} 0 1 = cc in absurd (omega arith)
-
-first-passed : (v w : Verdict) → orNext v w ≡ verdict.Passed → v ≡ verdict.Passed
-first-passed verdict.Passed w e = refl
-first-passed (verdict.Refused f) w e = e
-
-rest-passed : (v w : Verdict) → orNext v w ≡ verdict.Passed → w ≡ verdict.Passed
-rest-passed verdict.Passed w e = e
-rest-passed (verdict.Refused f) w e = let z : _≡_ {A = ℕ} 0 1 = cc in absurd (omega arith)
 
 pub platoons-short : (P Q : ℕ) → platoonCheck P Q ≡ verdict.Passed → (P ≤ maxPlatoon) × (Q ≤ maxPlatoon)
 unfolding platoonCheck
@@ -155,20 +146,6 @@ module _ (s z : Timed) (agree : Agree s z) where
               (redStart-agree s z agree (reference s) (movedOffset shift s (reference s)) (reference-lt s some)
               ∙ ap₂ (redStart z) (reference-agree s z agree) (own-offset shift)) i;
         }
-
--- what the constructor's answer says of the checks and the street
-pub verdict-checks : (l : Lists) (room : ℕ) (r : Surveyed) (v : Verdict) → r ≡ surveyed l room → r .verdict ≡ v → planChecks l room ≡ v
-verdict-checks l room r v e q = sym (verdict-of (planChecks l room)) ∙ sym (ap (λ x. x .verdict) e) ∙ q
-  where
-    verdict-of : (w : Verdict) → surveyedAs w (streetOf l) .verdict ≡ w
-    verdict-of verdict.Passed = refl
-    verdict-of (verdict.Refused f) = refl
-
-pub passed-street : (l : Lists) (room : ℕ) (r : Surveyed) → r ≡ surveyed l room → planChecks l room ≡ verdict.Passed → r .street ≡ streetOf l
-passed-street l room r e p = ap (λ x. x .street) e ∙ ap (λ v. surveyedAs v (streetOf l) .street) p
-
-pub passed-sound : (l : Lists) (room : ℕ) (s : Street) → s ≡ streetOf l → planChecks l room ≡ verdict.Passed → Sound s
-passed-sound l room s e p = subst Sound (sym e) (sound l room p)
 
 -- the lent list has room for what is written
 pub passed-room : (l : Lists) (room : ℕ) (s : Street) → s ≡ streetOf l → planChecks l room ≡ verdict.Passed → s .signals ≤ room

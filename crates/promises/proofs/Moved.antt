@@ -42,14 +42,14 @@ module _ (s : Timed) (ok : Fit s) (red : Stops s) (rise : Rising s) where
   unmoved = fun-ext (λ j. unmoved-offset s j (omega (arith, ok .turns)))
 
   -- the named bands are stretches, wherever their reported width is above 0
-  outbound-stretch : (shift : Shift) → InRange s shift → 1 ≤ outboundWidth shift s → (x : ℕ) → FromRed s (movedOffset shift s) x → Passes (outboundWay s (movedOffset shift s)) x (outboundWidth shift s)
+  pub outbound-stretch : (shift : Shift) → InRange s shift → 1 ≤ outboundWidth shift s → (x : ℕ) → FromRed s (movedOffset shift s) x → Passes (outboundWay s (movedOffset shift s)) x (outboundWidth shift s)
   outbound-stretch Unmoved range some =
       subst (λ f. (x : ℕ) → FromRed s f x → Passes (outboundWay s f) x (equalWidth s)) (sym unmoved)
       (λ x from. outbound-named s ok x (equalWidth s) from (omega (arith, equal-width s ok)))
   outbound-stretch (Outbound w) range some = λ x from. outbound-asked s ok w range x from
   outbound-stretch (Inbound w) range some = λ x from. outbound-beside s ok w range x some from
 
-  inbound-stretch : (shift : Shift) → InRange s shift → 1 ≤ inboundWidth shift s → (y : ℕ) → ToRed s (movedOffset shift s) y (inboundWidth shift s) → Passes (inboundWay s (movedOffset shift s)) y (inboundWidth shift s)
+  pub inbound-stretch : (shift : Shift) → InRange s shift → 1 ≤ inboundWidth shift s → (y : ℕ) → ToRed s (movedOffset shift s) y (inboundWidth shift s) → Passes (inboundWay s (movedOffset shift s)) y (inboundWidth shift s)
   inbound-stretch Unmoved range some =
       subst (λ f. (y : ℕ) → ToRed s f y (equalWidth s) → Passes (inboundWay s f) y (equalWidth s)) (sym unmoved)
       (λ y to. inbound-named s ok y (equalWidth s) rise to (omega (arith, equal-width s ok)))

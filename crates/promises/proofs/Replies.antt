@@ -2,27 +2,43 @@
 -- entries of the lent list the equal plan's offsets: so what is proved of the method's numbers holds of the reply's. Assumes nothing.
 use Prim.Native.Nat.{ℕ, _+_, _-_, _*_, _≤_, _<_}
 use mathlib.Core.Path.{_≡_, refl, sym, ap, subst, _∙_}
+use mathlib.Core.Bool.{true}
 use mathlib.Core.List.{List}
 use native.Mathlib.Omega.{arith}
 use lib.ListN.{length, drop, getD}
 use Rattle.circle.specs.Over.{listBelow}
-use Rattle.circle.specs.Method.{reference, equalWidth}
+use Rattle.circle.specs.Method.{Timed, reference, equalWidth}
+use Rattle.circle.specs.Moved.{inRange}
+use Rattle.circle.specs.Bands.{outboundWay, inboundWay}
 use Rattle.circle.proofs.Over.{getD-listBelow}
+use Rattle.circle.proofs.Arcs.{Passes}
+use Rattle.circle.proofs.MovedBands.{FromRed, ToRed}
 use Rattle.street.specs.Lists.{Lists, signals}
 use Rattle.street.specs.Codes.{codeNumber}
-use Rattle.street.specs.Checks.{planChecks}
+use Rattle.street.specs.Checks.{orNext, planChecks}
 use Rattle.street.specs.Times.{m, timed}
 use Rattle.street.specs.declared.Code.{Code}
 use Rattle.street.specs.declared.Code.the-variants.{Sheet, Count, Room, Cycle, Red, Distance, Speed, Platoon, Width, Offset}
 use Rattle.street.specs.declared.Verdict.{Verdict}
 use Rattle.street.specs.declared.Verdict.the-variants.{Passed, Refused}
+use Rattle.street.proofs.CheckLaws.{passes}
+use Rattle.street.proofs.Passed.{first-passed, rest-passed}
 use Rattle.plans.specs.Answers.{numbersOf, answered}
 use Rattle.plans.specs.Equal.{equalOffset, equalPlan, written}
+use Rattle.plans.specs.Moved.{shiftOf, movedOffset, movedPlan, outboundWidth, inboundWidth}
+use Rattle.plans.specs.Requests.{widthCheck, requestCheck, requestChecks}
 use Rattle.plans.specs.declared.Plan.{Plan}
+use Rattle.plans.specs.declared.widths.Request.{Request}
+use Rattle.plans.specs.declared.widths.Request.the-variants as request
+use Rattle.plans.specs.declared.widths.Shift.{Shift}
+use Rattle.plans.specs.declared.widths.Shift.the-variants.{Unmoved, Outbound, Inbound}
 use Rattle.promises.specs.Exact.{Fine}
-use Rattle.promises.specs.Rounding.{NoneBeats, Short, Exactly, NamedClear, ReplyKeeps}
+use Rattle.promises.specs.Moved.{InRange}
+use Rattle.promises.specs.Rounding.{NoneBeats, Short, Exactly, NamedClear, NoneBetter, ReplyKeeps, RequestKeeps}
+use Rattle.promises.proofs.Directions.{fit, stops, rising}
+use Rattle.promises.proofs.Moved.{outbound-stretch, inbound-stretch, platoons-in-range}
 use Rattle.promises.proofs.Rounding.{beats, falls, named, equal-out, equal-back}
-use Rattle.promises.proofs.Whole.{equal-exactly}
+use Rattle.promises.proofs.Whole.{equal-exactly, equal-exact, moved-exact}
 
 -- no code is 0
 code-some : (c : Code) → 1 ≤ codeNumber c
@@ -84,3 +100,60 @@ reply-keeps l entry exit r N call code fine =
     let at-c : reference s ≡ reference s + 1 - 1 = omega arith in
     subst (λ p. Kept l N (λ j. getD exit j 0) (p .reference - 1) p) numbers
     (subst (λ (c : ℕ). Kept l N (λ j. getD exit j 0) c (equalPlan s (m l))) at-c (kept l room N (λ j. getD exit j 0) passed fine same))
+
+-- a request that passed its check comes to a shift in range
+width-passed : (s : Timed) (w : ℕ) → widthCheck s w ≡ Passed → inRange s w ≡ true
+unfolding widthCheck
+width-passed s w e = passes (inRange s w) Width e
+
+in-range : (asked : Request) (l : Lists) (room : ℕ) → planChecks l room ≡ Passed → requestCheck asked (timed l) ≡ Passed → InRange (timed l) (shiftOf asked (timed l))
+in-range request.Equal l room passed e = tt
+in-range (request.Outbound w) l room passed e = width-passed (timed l) w e
+in-range (request.Inbound w) l room passed e = width-passed (timed l) w e
+in-range (request.Platoons P Q) l room passed e = platoons-in-range l room passed P Q
+
+-- where no time was rounded no offsets do better than such a shift
+none-better : (shift : Shift) (l : Lists) (room N : ℕ) → planChecks l room ≡ Passed → Fine l N → InRange (timed l) shift → m l ≡ 0 → NoneBetter shift l N (outboundWidth shift (timed l)) (inboundWidth shift (timed l))
+none-better Unmoved l room N passed fine range none = equal-exact l room N passed fine none .1
+none-better (Outbound w) l room N passed fine range none = moved-exact l room N passed fine none w range .2
+none-better (Inbound w) l room N passed fine range none = moved-exact l room N passed fine none w range .3
+
+-- what is promised of every plan's numbers and offsets
+Carried : (shift : Shift) (l : Lists) (N : ℕ) (f : ℕ → ℕ) (c : ℕ) (p : Plan) → Type 0
+Carried shift l N f c p =
+    Short l N f (p .outbound) (p .inbound) (p .rounded)
+    × NamedClear l N f c (p .starts) (p .outbound) (p .ends) (p .inbound) (p .rounded)
+    × (p .rounded ≡ 0 → NoneBetter shift l N (p .outbound) (p .inbound))
+
+carried : (shift : Shift) (l : Lists) (room N : ℕ) (g : ℕ → ℕ) → planChecks l room ≡ Passed → Fine l N → InRange (timed l) shift → ((j : ℕ) → j < signals l → g j ≡ movedOffset shift (timed l) j) → Carried shift l N g (reference (timed l)) (movedPlan shift (timed l) (m l))
+unfolding Carried
+carried shift l room N g passed fine range same =
+    let s = timed l in
+    let f = movedOffset shift s in
+    let ok = fit l room passed in
+    let red = stops l room passed in
+    let rise = rising l room passed in
+    let out : (x : ℕ) → FromRed s f x → 1 ≤ outboundWidth shift s → Passes (outboundWay s f) x (outboundWidth shift s) = λ x from some. outbound-stretch s ok red rise shift range some x from in
+    let back : (y : ℕ) → ToRed s f y (inboundWidth shift s) → 1 ≤ inboundWidth shift s → Passes (inboundWay s f) y (inboundWidth shift s) = λ y to some. inbound-stretch s ok red rise shift range some y to in (
+      falls l room passed N fine f g same (outboundWidth shift s) (inboundWidth shift s) out back,
+      named l room passed N fine f g same (outboundWidth shift s) (inboundWidth shift s) out back,
+      none-better shift l room N passed fine range,
+    )
+
+pub request-keeps : RequestKeeps
+unfolding Carried
+request-keeps asked l entry exit r N call code fine =
+    let s = timed l in
+    let room = length entry in
+    let shift = shiftOf asked s in
+    let plan = movedPlan shift s (m l) in
+    let v = requestChecks asked l room in
+    let g : ℕ → ℕ = λ j. getD exit j 0 in
+    let all : v ≡ Passed = planned v plan (ap (λ a. numbersOf a .code) (sym (call .reply)) ∙ code) in
+    let passed = first-passed (planChecks l room) (orNext (requestCheck asked s) Passed) all in
+    let asks = rest-passed (planChecks l room) (orNext (requestCheck asked s) Passed) all in
+    let range = in-range asked l room passed (first-passed (requestCheck asked s) Passed asks) in
+    let numbers : plan ≡ numbersOf r .plan = sym (ap (λ a. numbersOf a .plan) (call .reply) ∙ replied v plan all) in
+    let same : (j : ℕ) → j < signals l → g j ≡ movedOffset shift s j = λ j h. ap (λ (x : List ℕ). getD x j 0) (call .after) ∙ left v (signals l) (movedOffset shift s) entry all j h in
+    let at-c : reference s ≡ reference s + 1 - 1 = omega arith in
+    subst (λ p. Carried shift l N g (p .reference - 1) p) numbers (subst (λ (c : ℕ). Carried shift l N g c plan) at-c (carried shift l room N g passed fine range same))

@@ -17,7 +17,12 @@ use Rattle.street.specs.Times.{linkLength, timed, m}
 use Rattle.street.specs.declared.Verdict.the-variants.{Passed}
 use Rattle.plans.specs.Answers.{numbersOf}
 use Rattle.plans.specs.Equal.{equalOffset, Equal}
+use Rattle.plans.specs.Requests.{Requested}
+use Rattle.plans.specs.Moved.{shiftOf}
 use Rattle.plans.specs.declared.Answer.{Answer}
+use Rattle.plans.specs.declared.widths.Request.{Request}
+use Rattle.plans.specs.declared.widths.Shift.{Shift}
+use Rattle.plans.specs.declared.widths.Shift.the-variants.{Unmoved, Outbound, Inbound}
 use Rattle.promises.specs.Exact.{Fine, exactLink, exactOutbound, exactInbound}
 
 -- no offsets, at whatever instants of the unit, make the narrower of the two exact bands wider than v by more than r halves
@@ -137,3 +142,19 @@ ReplyKeeps =
     × Short l N f (p .outbound) (p .inbound) (p .rounded)
     × NamedClear l N f (p .reference - 1) (p .starts) (p .outbound) (p .ends) (p .inbound) (p .rounded)
     × (p .rounded ≡ 0 → Exactly l N f (p .outbound) (p .inbound))
+
+-- no offsets do better than a plan of these widths, by what was moved in it: where nothing was, none makes the narrower band wider, else none with the favoured band gives more beside it
+abbrev pub NoneBetter : Shift → Lists → ℕ → ℕ → ℕ → Type 0
+NoneBetter Unmoved l N v v′ = NoneBeats l N v 0
+NoneBetter (Outbound w) l N v v′ = (f : ℕ → ℕ) → N * v ≤ width (exactOutbound l N f) → width (exactInbound l N f) ≤ N * v′
+NoneBetter (Inbound w) l N v v′ = (f : ℕ → ℕ) → N * v′ ≤ width (exactInbound l N f) → width (exactOutbound l N f) ≤ N * v
+
+-- and of a call with a request, for a width or for two platoons: of the numbers in its reply and the offsets that it leaves, what holds of every plan
+abbrev pub RequestKeeps : Type 0
+RequestKeeps =
+    (request : Request) (l : Lists) (entry exit : List ℕ) (r : Answer) (N : ℕ) → Requested request l entry exit r → numbersOf r .code ≡ 0 → Fine l N →
+    let p = numbersOf r .plan in
+    let f : ℕ → ℕ = λ j. getD exit j 0 in
+    Short l N f (p .outbound) (p .inbound) (p .rounded)
+    × NamedClear l N f (p .reference - 1) (p .starts) (p .outbound) (p .ends) (p .inbound) (p .rounded)
+    × (p .rounded ≡ 0 → NoneBetter (shiftOf request (timed l)) l N (p .outbound) (p .inbound))

@@ -20,15 +20,17 @@ use Rattle.street.specs.declared.Verdict.{Verdict}
 use Rattle.street.specs.declared.Verdict.the-variants.{Passed, Refused}
 use Rattle.street.proofs.CheckLaws.{passes, Within, within-range, Counted, counted, cycle-range}
 
-first-passed : (v w : Verdict) → orNext v w ≡ Passed → v ≡ Passed
+-- checks that passed one after the other each passed
+pub first-passed : (v w : Verdict) → orNext v w ≡ Passed → v ≡ Passed
 first-passed Passed w e = refl
 first-passed (Refused f) w e = e
 
-rest-passed : (v w : Verdict) → orNext v w ≡ Passed → w ≡ Passed
+pub rest-passed : (v w : Verdict) → orNext v w ≡ Passed → w ≡ Passed
 rest-passed Passed w e = e
 rest-passed (Refused f) w e = let z : _≡_ {A = ℕ} 0 1 = cc in absurd (omega arith)
 
-no-fault : (code : Code) (f : Found) → faultAt code f ≡ Passed → f ≡ nowhere
+-- a search that found no fault
+pub no-fault : (code : Code) (f : Found) → faultAt code f ≡ Passed → f ≡ nowhere
 no-fault code nowhere e = refl
 no-fault code (at i) e = let z : _≡_ {A = ℕ} 0 1 = cc in absurd (omega arith)
 

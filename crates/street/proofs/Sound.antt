@@ -13,8 +13,11 @@ use Rattle.street.specs.Limits.{maxSignals}
 use Rattle.street.specs.Lists.{Lists, signals}
 use Rattle.street.specs.Checks.{planChecks}
 use Rattle.street.specs.Times.{timeTo, linkTicks, roundedLink, m, timed, Driveable}
-use Rattle.street.specs.Streets.{padded, streetOf, timedStreet, Sound}
-use Rattle.street.specs.declared.Verdict.the-variants.{Passed}
+use Rattle.street.specs.Streets.{padded, streetOf, surveyed, surveyedAs, timedStreet, Sound}
+use Rattle.street.specs.declared.Street.{Street}
+use Rattle.street.specs.declared.Surveyed.{Surveyed}
+use Rattle.street.specs.declared.Verdict.{Verdict}
+use Rattle.street.specs.declared.Verdict.the-variants.{Passed, Refused}
 use Rattle.street.proofs.TimeLaws.{time-small, mark-small}
 use Rattle.street.proofs.Passed.{Clear, clear}
 
@@ -65,3 +68,17 @@ module _ (l : Lists) (room : ℕ) (passed : planChecks l room ≡ Passed) where
         outbound = λ k h. getD-padded (signals l) (timed l .outbound) k h;
         inbound = λ k h. getD-padded (signals l) (timed l .inbound) k h;
       }
+
+-- what the constructor's answer says of the checks and of the street
+pub verdict-checks : (l : Lists) (room : ℕ) (r : Surveyed) (v : Verdict) → r ≡ surveyed l room → r .verdict ≡ v → planChecks l room ≡ v
+verdict-checks l room r v e q = sym (verdict-of (planChecks l room)) ∙ sym (ap (λ x. x .verdict) e) ∙ q
+  where
+    verdict-of : (w : Verdict) → surveyedAs w (streetOf l) .verdict ≡ w
+    verdict-of Passed = refl
+    verdict-of (Refused f) = refl
+
+pub passed-street : (l : Lists) (room : ℕ) (r : Surveyed) → r ≡ surveyed l room → planChecks l room ≡ Passed → r .street ≡ streetOf l
+passed-street l room r e p = ap (λ x. x .street) e ∙ ap (λ v. surveyedAs v (streetOf l) .street) p
+
+pub passed-sound : (l : Lists) (room : ℕ) (s : Street) → s ≡ streetOf l → planChecks l room ≡ Passed → Sound s
+passed-sound l room s e p = subst Sound (sym e) (sound l room p)

@@ -4,7 +4,8 @@ use mathlib.Core.Path.{sym, ap, _∙_}
 use borrow.Author.Needs.{needs}
 use Rattle.street.specs.Lists.{typed, signals}
 use Rattle.street.specs.declared.Verdict.the-variants.{Passed}
-use Rattle.bands.proofs.MeasureLaws.{measure-short, measure-refused, measure-surveyed, survey-verdict, survey-street, survey-sound, survey-onward}
+use Rattle.street.proofs.Sound.{verdict-checks, passed-street, passed-sound}
+use Rattle.bands.proofs.MeasureLaws.{measure-short, measure-refused, measure-surveyed, survey-onward}
 use Rattle.bands.proofs.measure.Statement.{statement}
 use Rattle.bands.proofs.measure.Tie as tie
 
@@ -30,16 +31,16 @@ on-street-requires c κs =
     let l = typed (c0 .args .cycle) (c0 .args .reds .now) (c0 .args .distances .now) (c0 .args .outbound .now) (c0 .args .inbound .now) in
     let offsets = c0 .args .offsets .now in
     let x = c .before .before .before .new .result in
-    let passed = survey-verdict l (signals l) x Passed (c .before .before .before .new .ensures) (c .before .enum-told .given .1) in
-    let is = survey-street l (signals l) x (c .before .before .before .new .ensures) passed in
-    (survey-sound l (signals l) (x .street) is passed, survey-onward l (signals l) (x .street) is passed, c .before .before .before .before .if1 .left ∙ sym (ap (λ s. s .signals) is))
+    let passed = verdict-checks l (signals l) x Passed (c .before .before .before .new .ensures) (c .before .enum-told .given .1) in
+    let is = passed-street l (signals l) x (c .before .before .before .new .ensures) passed in
+    (passed-sound l (signals l) (x .street) is passed, survey-onward l (signals l) (x .street) is passed, c .before .before .before .before .if1 .left ∙ sym (ap (λ s. s .signals) is))
 
 returns-2 : tie.Need-returns-2
 returns-2 c =
     let c0 = c .before .before .before .before .before .before .before .before .before .before in
     let l = typed (c0 .args .cycle) (c0 .args .reds .now) (c0 .args .distances .now) (c0 .args .outbound .now) (c0 .args .inbound .now) in
     let offsets = c0 .args .offsets .now in
-    measure-refused l offsets _ (c .before .before .before .before .if1 .left) (survey-verdict l (signals l) (c .before .before .before .new .result) _ (c .before .before .before .new .ensures) (c .before .verdict .given .1))
+    measure-refused l offsets _ (c .before .before .before .before .if1 .left) (verdict-checks l (signals l) (c .before .before .before .new .result) _ (c .before .before .before .new .ensures) (c .before .verdict .given .1))
 
 returns-3 : tie.Need-returns-3
 returns-3 c =
@@ -47,8 +48,8 @@ returns-3 c =
     let l = typed (c0 .args .cycle) (c0 .args .reds .now) (c0 .args .distances .now) (c0 .args .outbound .now) (c0 .args .inbound .now) in
     let offsets = c0 .args .offsets .now in
     let x = c .before .before .before .before .new .result in
-    let passed = survey-verdict l (signals l) x Passed (c .before .before .before .before .new .ensures) (c .before .before .enum-told .given .1) in
-    let is = survey-street l (signals l) x (c .before .before .before .before .new .ensures) passed in
+    let passed = verdict-checks l (signals l) x Passed (c .before .before .before .before .new .ensures) (c .before .before .enum-told .given .1) in
+    let is = passed-street l (signals l) x (c .before .before .before .before .new .ensures) passed in
     measure-surveyed l offsets (x .street) (c .on-street .result) (c .before .before .before .before .before .if1 .left) passed is (c .on-street .ensures)
 
 pub measure-spec : {M : Type 1} → statement M

@@ -9,9 +9,10 @@ use Rattle.street.specs.Checks.{planChecks}
 use Rattle.street.specs.Streets.{streetOf, timedStreet, Sound}
 use Rattle.street.specs.declared.Surveyed.{Surveyed}
 use Rattle.street.specs.declared.Verdict.the-variants.{Passed}
+use Rattle.street.proofs.Sound.{verdict-checks, passed-street, passed-sound}
 use Rattle.plans.specs.Requests.{requestCheck}
 use Rattle.plans.specs.Steps.{Ready, shiftWidth}
-use Rattle.plans.proofs.RequestLaws.{shift-small, verdict-checks, passed-street, passed-sound, passed-room, requested-refused, asked-refused, requested-planned}
+use Rattle.plans.proofs.RequestLaws.{shift-small, passed-room, requested-refused, asked-refused, requested-planned}
 use borrow.Author.Needs.{needs}
 use Rattle.plans.proofs.planned.Statement.{statement}
 use Rattle.plans.proofs.planned.Tie as tie
