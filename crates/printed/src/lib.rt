@@ -104,7 +104,7 @@ fn offset_lines(p: Printed, signals: usize, offsets: [u32; 32]) -> Printed
 }
 
 // A refusal's number.
-fn code_number(code: Code) -> u32
+pub fn code_number(code: Code) -> u32
     ensures { λ r. ⌜ r ≡ codeNumber code ⌝ }
 {
     match code {

@@ -1,0 +1,190 @@
+/*
+ * A client of include/corbatan.h. It reads a street sheet from a file, plans it over a lent list that it has filled
+ * with a pattern, prints the reply and the whole list, and measures the offsets of a plan.
+ *
+ *     client SHEET [room N | outbound WIDTH | inbound WIDTH | platoons P Q]
+ *     client SHEET print|numbers|unequal
+ *     client empty
+ *
+ * Without a word after the sheet, or with `room`, it is the equal plan. `print` shows the printed plan and `numbers`
+ * what the reader read. `unequal` hands over lists whose lengths do not fit, and `empty` hands null pointers and
+ * counts of 0 to every call. Exit status: 0, or 2 where the words or the
+ * file are no good; a refusal is an answer.
+ */
+#include "corbatan.h"
+
+#include <inttypes.h>
+#include <stdio.h>
+#include <stdlib.h>
+#include <string.h>
+
+/* No offset is as large as the pattern, so an entry that was written shows. */
+#define PATTERN 77777u
+#define MAX_ROOM 64
+
+/* The structs are laid out as the library has them: a negative size here stops the compiler. */
+typedef char plan_size[sizeof(CorbatanPlan) == 36 ? 1 : -1];
+typedef char measure_size[sizeof(CorbatanMeasure) == 24 ? 1 : -1];
+typedef char sheet_size[sizeof(CorbatanSheet) == 536 && offsetof(CorbatanSheet, reds) == 20 ? 1 : -1];
+typedef char text_size[sizeof(CorbatanText) == 520 && offsetof(CorbatanText, bytes) == 8 ? 1 : -1];
+
+static uint32_t lent[MAX_ROOM];
+
+static uint32_t *fill(size_t room)
+{
+    for (size_t i = 0; i < MAX_ROOM; i++)
+        lent[i] = PATTERN;
+    return room == 0 ? NULL : lent;
+}
+
+/* An empty list as a null pointer, which the calls allow. */
+static const uint32_t *list(const uint32_t *entries, size_t count)
+{
+    return count == 0 ? NULL : entries;
+}
+
+static void show_list(const char *name, const uint32_t *entries, size_t count)
+{
+    printf("%s", name);
+    for (size_t i = 0; i < count; i++)
+        printf(" %" PRIu32, entries[i]);
+    printf("\n");
+}
+
+static void show_plan(CorbatanPlan p)
+{
+    printf("plan code %" PRIu32 " place %" PRIu32, p.code, p.place);
+    printf(" reference %" PRIu32 " b %" PRId32, p.reference, p.b);
+    printf(" outbound %" PRIu32 " inbound %" PRIu32 " rounded %" PRIu32, p.outbound, p.inbound, p.rounded);
+    printf(" starts %" PRIu32 " ends %" PRIu32 "\n", p.starts, p.ends);
+}
+
+static void show_measure(CorbatanMeasure m)
+{
+    printf("measure code %" PRIu32 " place %" PRIu32, m.code, m.place);
+    printf(" outbound %" PRIu32 " from %" PRIu32, m.outbound_width, m.outbound_start);
+    printf(" inbound %" PRIu32 " from %" PRIu32 "\n", m.inbound_width, m.inbound_start);
+}
+
+static void show_sheet(CorbatanSheet s)
+{
+    size_t links = s.signals == 0 ? 0 : s.signals - 1, beyond = 0;
+    for (size_t i = 0; i < CORBATAN_MAX_SIGNALS; i++) {
+        beyond += i >= s.signals && (s.reds[i] != 0 || s.distances[i] != 0);
+        beyond += i >= links && (s.outbound[i] != 0 || s.inbound[i] != 0);
+    }
+    printf("sheet code %" PRIu32 " place %" PRIu32 " signals %zu cycle %" PRIu32, s.code, s.place, s.signals, s.cycle);
+    printf(" numbers beyond %zu\n", beyond);
+    show_list("reds", s.reds, s.signals);
+    show_list("distances", s.distances, s.signals);
+    show_list("outbound", s.outbound, links);
+    show_list("inbound", s.inbound, links);
+}
+
+static void show_text(CorbatanText t)
+{
+    fwrite(t.bytes, 1, t.count, stdout);
+}
+
+/* A street's lists as the calls take them, after the cycle. */
+#define STREET(s, n, links)                                                                                       \
+    (s).cycle, (s).reds, (n), (s).distances, (n), list((s).outbound, (links)), (links), list((s).inbound, (links)), \
+        (links)
+
+/* Shows a plan and the list, and measures the offsets that stand in it. */
+static void show_planned(const CorbatanSheet *s, CorbatanPlan p, size_t room)
+{
+    show_plan(p);
+    show_list("list", lent, room);
+    if (p.code == CORBATAN_OK)
+        show_measure(corbatan_measure(STREET(*s, s->signals, s->signals - 1), lent, s->signals));
+}
+
+/* A distance too few, an outbound speed too many, an inbound speed too many, an offset too many, and then as many as
+   there should be, which still are the pattern and so too large. */
+static void unequal(const CorbatanSheet *s)
+{
+    const uint32_t *r = s->reds, *d = s->distances, *o = s->outbound, *i = s->inbound;
+    size_t n = s->signals, links = n - 1;
+    uint32_t *offsets = fill(n);
+    show_plan(corbatan_equal(s->cycle, r, n, d, n - 1, o, links, i, links, offsets, n));
+    show_plan(corbatan_inbound(s->cycle, r, n, d, n, o, n, i, links, 80, offsets, n));
+    show_plan(corbatan_outbound(s->cycle, r, n, d, n, o, links, i, n, 80, offsets, n));
+    show_list("list", lent, n);
+    show_measure(corbatan_measure(STREET(*s, n, links), lent, n + 1));
+    show_measure(corbatan_measure(STREET(*s, n, links), lent, n));
+}
+
+static void empty(void)
+{
+    show_sheet(corbatan_read(NULL, 0));
+    show_text(corbatan_print(NULL, 0));
+    show_plan(corbatan_equal(600, NULL, 0, NULL, 0, NULL, 0, NULL, 0, NULL, 0));
+    show_plan(corbatan_outbound(600, NULL, 0, NULL, 0, NULL, 0, NULL, 0, 80, NULL, 0));
+    show_plan(corbatan_inbound(600, NULL, 0, NULL, 0, NULL, 0, NULL, 0, 80, NULL, 0));
+    show_plan(corbatan_platoons(600, NULL, 0, NULL, 0, NULL, 0, NULL, 0, 30, 10, NULL, 0));
+    show_measure(corbatan_measure(600, NULL, 0, NULL, 0, NULL, 0, NULL, 0, NULL, 0));
+}
+
+static int usage(void)
+{
+    fprintf(stderr, "usage: client SHEET [room N | outbound WIDTH | inbound WIDTH | platoons P Q]\n");
+    fprintf(stderr, "       client SHEET print|numbers|unequal\n");
+    fprintf(stderr, "       client empty\n");
+    return 2;
+}
+
+/* The calls on a sheet that was read, by the words after its name. */
+static int asked(const CorbatanSheet *s, int words, char **word)
+{
+    size_t n = s->signals, links = n - 1, room = n + 1;
+    uint32_t first = words > 1 ? (uint32_t)strtoul(word[1], NULL, 10) : 0;
+    uint32_t second = words > 2 ? (uint32_t)strtoul(word[2], NULL, 10) : 0;
+    if (words == 2 && strcmp(word[0], "room") == 0)
+        room = first;
+    if (room > MAX_ROOM)
+        return usage();
+    uint32_t *offsets = fill(room);
+    if (words == 0 || (words == 2 && strcmp(word[0], "room") == 0))
+        show_planned(s, corbatan_equal(STREET(*s, n, links), offsets, room), room);
+    else if (words == 2 && strcmp(word[0], "outbound") == 0)
+        show_planned(s, corbatan_outbound(STREET(*s, n, links), first, offsets, room), room);
+    else if (words == 2 && strcmp(word[0], "inbound") == 0)
+        show_planned(s, corbatan_inbound(STREET(*s, n, links), first, offsets, room), room);
+    else if (words == 3 && strcmp(word[0], "platoons") == 0)
+        show_planned(s, corbatan_platoons(STREET(*s, n, links), first, second, offsets, room), room);
+    else if (words == 1 && strcmp(word[0], "unequal") == 0)
+        unequal(s);
+    else
+        return usage();
+    return 0;
+}
+
+int main(int argc, char **argv)
+{
+    /* Twice what a sheet may have, so that one that is too long is still too long here. */
+    static uint8_t bytes[4096];
+    if (argc < 2)
+        return usage();
+    if (argc == 2 && strcmp(argv[1], "empty") == 0) {
+        empty();
+        return 0;
+    }
+    FILE *file = fopen(argv[1], "rb");
+    if (file == NULL) {
+        perror(argv[1]);
+        return 2;
+    }
+    size_t count = fread(bytes, 1, sizeof bytes, file);
+    fclose(file);
+    if (argc == 3 && strcmp(argv[2], "print") == 0) {
+        show_text(corbatan_print(bytes, count));
+        return 0;
+    }
+    CorbatanSheet s = corbatan_read(bytes, count);
+    if (s.code != CORBATAN_OK || (argc == 3 && strcmp(argv[2], "numbers") == 0)) {
+        show_sheet(s);
+        return 0;
+    }
+    return asked(&s, argc - 2, argv + 2);
+}

@@ -1,0 +1,67 @@
+-- How the library's contracts carry over to C's structs, for any lists and replies. Assumes nothing.
+use Prim.Native.Nat.{ℕ}
+use mathlib.Core.Path.{_≡_, sym, ap, _∙_}
+use mathlib.Core.List.{List}
+use lib.IntN.{ℤ}
+use Rattle.street.specs.Codes.{codeNumber}
+use Rattle.street.specs.Lists.{Lists}
+use Rattle.street.specs.declared.Refusal.{Refusal}
+use Rattle.street.specs.declared.Verdict.the-variants as verdict
+use Rattle.sheet.specs.declared.Reading.{Reading}
+use Rattle.plans.specs.Answers.{noPlan}
+use Rattle.plans.specs.Equal as plans
+use Rattle.plans.specs.Requests as requests
+use Rattle.plans.specs.declared.Plan.{Plan}
+use Rattle.plans.specs.declared.Answer.{Answer}
+use Rattle.plans.specs.declared.Answer.the-variants as answer
+use Rattle.plans.specs.declared.widths.Request.{Request}
+use Rattle.bands.specs.Measure.{noBand}
+use Rattle.bands.specs.declared.Measurement.the-variants as measurement
+use Rattle.exports.specs.declared.CorbatanPlan.{CorbatanPlan}
+use Rattle.exports.specs.declared.CorbatanSheet.{CorbatanSheet}
+use Rattle.exports.specs.Flat.{planFields, flatPlan, measureFields, flatMeasure, flatSheet, judged, flatReading}
+use Rattle.exports.specs.Calls.{Equal, Requested}
+
+-- a plan with another B
+abbrev withB : Plan → ℤ → Plan
+withB p z =
+    record {
+      reference = p .reference;
+      b = z;
+      outbound = p .outbound;
+      inbound = p .inbound;
+      rounded = p .rounded;
+      starts = p .starts;
+      ends = p .ends;
+    }
+
+-- a plan's fields, whose B is read off its bits
+pub plan-fields : (p : Plan) (b : ℤ) → b ≡ p .b → planFields (record { code = 0; place = 0; plan = withB p b }) ≡ flatPlan (answer.Planned p)
+plan-fields p b e = ap (λ z. planFields (record { code = 0; place = 0; plan = withB p z })) e
+
+-- a refusal's fields, by its number
+pub plan-refused :
+    (f : Refusal) (code : ℕ) → code ≡ codeNumber (f .code) →
+    planFields (record { code = code; place = f .place; plan = noPlan }) ≡ flatPlan (answer.Refused f)
+plan-refused f code e = ap (λ k. planFields (record { code = k; place = f .place; plan = noPlan })) e
+
+pub measure-refused :
+    (f : Refusal) (code : ℕ) → code ≡ codeNumber (f .code) →
+    measureFields (record { code = code; place = f .place; outbound = noBand; inbound = noBand }) ≡ flatMeasure (measurement.Refused f)
+measure-refused f code e = ap (λ k. measureFields (record { code = k; place = f .place; outbound = noBand; inbound = noBand })) e
+
+-- what `plans` ensures of an answer, of the struct that holds it
+pub equal-flat : (l : Lists) (entry exit : List ℕ) (a : Answer) (r : CorbatanPlan) → plans.Equal l entry exit a → r ≡ flatPlan a → Equal l entry exit r
+equal-flat l entry exit a r found e = record { reply = e ∙ ap flatPlan (found .reply); after = found .after }
+
+pub requested-flat : (asked : Request) (l : Lists) (entry exit : List ℕ) (a : Answer) (r : CorbatanPlan) → requests.Requested asked l entry exit a → r ≡ flatPlan a → Requested asked l entry exit r
+requested-flat asked l entry exit a r found e = record { reply = e ∙ ap flatPlan (found .reply); after = found .after }
+
+-- a reading by its verdict
+module _ (r r′ : Reading) (x : CorbatanSheet) (same : r ≡ r′) where
+  pub reading-passed : r .verdict ≡ verdict.Passed → x ≡ flatSheet 0 0 (r .sheet) → x ≡ flatReading r′
+  reading-passed v e = e ∙ ap (λ w. judged w (r .sheet)) (sym v) ∙ ap flatReading same
+
+  pub reading-refused : (f : Refusal) (code : ℕ) → r .verdict ≡ verdict.Refused f → code ≡ codeNumber (f .code) → x ≡ flatSheet code (f .place) (r .sheet) → x ≡ flatReading r′
+  reading-refused f code v k e =
+      e ∙ ap (λ n. flatSheet n (f .place) (r .sheet)) k ∙ ap (λ w. judged w (r .sheet)) (sym v) ∙ ap flatReading same

@@ -1,0 +1,74 @@
+-- The library's replies as C's flat structs: the numbers that the library's own definitions give each reply, one field for each.
+use Prim.Native.Nat.{ℕ}
+use Rattle.street.specs.Codes.{codeNumber}
+use Rattle.street.specs.declared.Verdict.{Verdict}
+use Rattle.street.specs.declared.Verdict.the-variants as verdict
+use Rattle.sheet.specs.declared.Sheet.{Sheet}
+use Rattle.sheet.specs.declared.Reading.{Reading}
+use Rattle.plans.specs.Answers as plans
+use Rattle.plans.specs.declared.Answer.{Answer}
+use Rattle.bands.specs.Measure as bands
+use Rattle.bands.specs.declared.Measurement.{Measurement}
+use Rattle.printed.specs.declared.Printed.{Printed}
+use Rattle.exports.specs.declared.CorbatanPlan.{CorbatanPlan}
+use Rattle.exports.specs.declared.CorbatanMeasure.{CorbatanMeasure}
+use Rattle.exports.specs.declared.CorbatanSheet.{CorbatanSheet}
+use Rattle.exports.specs.declared.CorbatanText.{CorbatanText}
+
+-- a plan's numbers, or a refusal's
+abbrev pub planFields : plans.Numbers → CorbatanPlan
+planFields n =
+    record {
+      code = n .code;
+      place = n .place;
+      reference = n .plan .reference;
+      b = n .plan .b;
+      outbound = n .plan .outbound;
+      inbound = n .plan .inbound;
+      rounded = n .plan .rounded;
+      starts = n .plan .starts;
+      ends = n .plan .ends;
+    }
+
+abbrev pub flatPlan : Answer → CorbatanPlan
+flatPlan a = planFields (plans.numbersOf a)
+
+-- a measure's numbers, or a refusal's
+abbrev pub measureFields : bands.Numbers → CorbatanMeasure
+measureFields n =
+    record {
+      code = n .code;
+      place = n .place;
+      «outbound_width» = n .outbound .width;
+      «outbound_start» = n .outbound .start;
+      «inbound_width» = n .inbound .width;
+      «inbound_start» = n .inbound .start;
+    }
+
+abbrev pub flatMeasure : Measurement → CorbatanMeasure
+flatMeasure m = measureFields (bands.numbersOf m)
+
+-- a sheet's numbers beside a code and a place
+abbrev pub flatSheet : ℕ → ℕ → Sheet → CorbatanSheet
+flatSheet code place s =
+    record {
+      code = code;
+      place = place;
+      signals = s .signals;
+      cycle = s .cycle;
+      reds = s .reds;
+      distances = s .distances;
+      outbound = s .outbound;
+      inbound = s .inbound;
+    }
+
+-- the same with a verdict's code and place
+abbrev pub judged : Verdict → Sheet → CorbatanSheet
+judged verdict.Passed s = flatSheet 0 0 s
+judged (verdict.Refused f) s = flatSheet (codeNumber (f .code)) (f .place) s
+
+abbrev pub flatReading : Reading → CorbatanSheet
+flatReading r = judged (r .verdict) (r .sheet)
+
+abbrev pub flatText : Printed → CorbatanText
+flatText t = record { count = t .count; bytes = t .bytes }

@@ -1,0 +1,260 @@
+// The C boundary: each public call as a C function over numbers, lists and flat structs, for include/corbatan.h. A list is a
+// pointer and a count to C. C has no enums with fields, so a reply is one struct, whose code is 0 where nothing was refused.
+use bands::Measurement;
+use plans::Answer;
+use printed::code_number;
+use sheet::Sheet;
+use street::Street;
+use street::Verdict;
+ghost use mathlib.Core.Path.{_≡_};
+ghost use Rattle.street.specs.Limits.{maxSignals};
+ghost use Rattle.street.specs.Lists.{typed};
+ghost use Rattle.sheet.specs.Reading.{readingOf};
+ghost use Rattle.plans.specs.declared.widths.Request.the-variants.{Outbound, Inbound, Platoons};
+ghost use Rattle.bands.specs.Measure.{measurementOf};
+ghost use Rattle.printed.specs.Text.{printedOf};
+ghost use Rattle.printed.specs.Way.{equalText};
+ghost use Rattle.exports.specs.Flat.{flatPlan, flatMeasure, flatSheet, flatReading, flatText};
+ghost use Rattle.exports.specs.Calls.{Equal, Requested};
+
+// A plan's numbers or a refusal's, with document 01's number for the refusal. Widths, B and instants are in halves.
+#[repr(C)]
+pub struct CorbatanPlan {
+    pub code: u32,
+    pub place: u32,
+    pub reference: u32,
+    pub b: i32,
+    pub outbound: u32,
+    pub inbound: u32,
+    pub rounded: u32,
+    pub starts: u32,
+    pub ends: u32,
+}
+
+// A measure's numbers or a refusal's, widths and starts in halves.
+#[repr(C)]
+pub struct CorbatanMeasure {
+    pub code: u32,
+    pub place: u32,
+    pub outbound_width: u32,
+    pub outbound_start: u32,
+    pub inbound_width: u32,
+    pub inbound_start: u32,
+}
+
+// A sheet's numbers, not yet judged, or a refusal's. The lists stand inside, so that none has to be lent for them.
+#[repr(C)]
+pub struct CorbatanSheet {
+    pub code: u32,
+    pub place: u32,
+    pub signals: usize,
+    pub cycle: u32,
+    pub reds: [u32; 32],
+    pub distances: [u32; 32],
+    pub outbound: [u32; 32],
+    pub inbound: [u32; 32],
+}
+
+// A printed text: its length, and its bytes with zeros behind them.
+#[repr(C)]
+pub struct CorbatanText {
+    pub count: usize,
+    pub bytes: [u8; 512],
+}
+
+// Any plan's answer.
+fn plan(answer: Answer) -> CorbatanPlan
+    ensures { λ r. ⌜ r ≡ flatPlan answer ⌝ }
+{
+    match answer {
+        Answer::Planned(p) => CorbatanPlan {
+            code: 0,
+            place: 0,
+            reference: p.reference,
+            b: p.b,
+            outbound: p.outbound,
+            inbound: p.inbound,
+            rounded: p.rounded,
+            starts: p.starts,
+            ends: p.ends,
+        },
+        Answer::Refused(f) => {
+            let code = f.code;
+            CorbatanPlan {
+                code: code_number(code),
+                place: f.place,
+                reference: 0,
+                b: 0,
+                outbound: 0,
+                inbound: 0,
+                rounded: 0,
+                starts: 0,
+                ends: 0,
+            }
+        }
+    }
+}
+
+fn measure(answer: Measurement) -> CorbatanMeasure
+    ensures { λ r. ⌜ r ≡ flatMeasure answer ⌝ }
+{
+    match answer {
+        Measurement::Found(m) => CorbatanMeasure {
+            code: 0,
+            place: 0,
+            outbound_width: m.outbound.width,
+            outbound_start: m.outbound.start,
+            inbound_width: m.inbound.width,
+            inbound_start: m.inbound.start,
+        },
+        Measurement::Refused(f) => {
+            let code = f.code;
+            CorbatanMeasure {
+                code: code_number(code),
+                place: f.place,
+                outbound_width: 0,
+                outbound_start: 0,
+                inbound_width: 0,
+                inbound_start: 0,
+            }
+        }
+    }
+}
+
+// A sheet's numbers beside the code and place of its verdict.
+fn numbered(s: Sheet, code: u32, place: u32) -> CorbatanSheet
+    ensures { λ r. ⌜ r ≡ flatSheet code place s ⌝ }
+{
+    let reds = s.reds;
+    let distances = s.distances;
+    let outbound = s.outbound;
+    let inbound = s.inbound;
+    CorbatanSheet {
+        code,
+        place,
+        signals: s.signals,
+        cycle: s.cycle,
+        reds,
+        distances,
+        outbound,
+        inbound,
+    }
+}
+
+// The equal plan. The first entries of the lent list become the offsets; a refusal leaves the list as it was.
+#[no_mangle]
+pub extern "C" fn corbatan_equal(
+    cycle: u32,
+    reds: &[u32],
+    distances: &[u32],
+    outbound: &[u32],
+    inbound: &[u32],
+    offsets: &mut [u32],
+) -> CorbatanPlan
+    ensures { λ r. ⌜ Equal (typed cycle (now (reds .entry)) (now (distances .entry)) (now (outbound .entry)) (now (inbound .entry))) (now (offsets .entry)) (now (offsets .exit)) r ⌝ }
+{
+    plan(plans::equal(cycle, reds, distances, outbound, inbound, offsets))
+}
+
+// The plan with a requested outbound width in halves.
+#[no_mangle]
+pub extern "C" fn corbatan_outbound(
+    cycle: u32,
+    reds: &[u32],
+    distances: &[u32],
+    outbound: &[u32],
+    inbound: &[u32],
+    width: u32,
+    offsets: &mut [u32],
+) -> CorbatanPlan
+    ensures { λ r. ⌜ Requested (Outbound width) (typed cycle (now (reds .entry)) (now (distances .entry)) (now (outbound .entry)) (now (inbound .entry))) (now (offsets .entry)) (now (offsets .exit)) r ⌝ }
+{
+    plan(plans::outbound(cycle, reds, distances, outbound, inbound, width, offsets))
+}
+
+// The plan with a requested inbound width in halves.
+#[no_mangle]
+pub extern "C" fn corbatan_inbound(
+    cycle: u32,
+    reds: &[u32],
+    distances: &[u32],
+    outbound: &[u32],
+    inbound: &[u32],
+    width: u32,
+    offsets: &mut [u32],
+) -> CorbatanPlan
+    ensures { λ r. ⌜ Requested (Inbound width) (typed cycle (now (reds .entry)) (now (distances .entry)) (now (outbound .entry)) (now (inbound .entry))) (now (offsets .entry)) (now (offsets .exit)) r ⌝ }
+{
+    plan(plans::inbound(cycle, reds, distances, outbound, inbound, width, offsets))
+}
+
+// The plan from the lengths of two platoons in halves.
+#[no_mangle]
+pub extern "C" fn corbatan_platoons(
+    cycle: u32,
+    reds: &[u32],
+    distances: &[u32],
+    outbound: &[u32],
+    inbound: &[u32],
+    outbound_platoon: u32,
+    inbound_platoon: u32,
+    offsets: &mut [u32],
+) -> CorbatanPlan
+    ensures { λ r. ⌜ Requested (Platoons «outbound_platoon» «inbound_platoon») (typed cycle (now (reds .entry)) (now (distances .entry)) (now (outbound .entry)) (now (inbound .entry))) (now (offsets .entry)) (now (offsets .exit)) r ⌝ }
+{
+    plan(plans::platoons(
+        cycle,
+        reds,
+        distances,
+        outbound,
+        inbound,
+        outbound_platoon,
+        inbound_platoon,
+        offsets,
+    ))
+}
+
+// The measure of given offsets, which are an input here and not lent.
+#[no_mangle]
+pub extern "C" fn corbatan_measure(
+    cycle: u32,
+    reds: &[u32],
+    distances: &[u32],
+    outbound: &[u32],
+    inbound: &[u32],
+    offsets: &[u32],
+) -> CorbatanMeasure
+    ensures { λ r. ⌜ r ≡ flatMeasure (measurementOf (typed cycle (now (reds .entry)) (now (distances .entry)) (now (outbound .entry)) (now (inbound .entry))) (now (offsets .entry))) ⌝ }
+{
+    measure(bands::measure(cycle, reds, distances, outbound, inbound, offsets))
+}
+
+// The numbers of a sheet's bytes.
+#[no_mangle]
+pub extern "C" fn corbatan_read(bytes: &[u8]) -> CorbatanSheet
+    ensures { λ r. ⌜ r ≡ flatReading (readingOf (now (bytes .entry))) ⌝ }
+{
+    let reading = sheet::read(bytes);
+    let verdict = reading.verdict;
+    let numbers = reading.sheet;
+    match verdict {
+        Verdict::Passed => numbered(numbers, 0, 0),
+        Verdict::Refused(f) => {
+            let code = f.code;
+            numbered(numbers, code_number(code), f.place)
+        }
+    }
+}
+
+// The printed equal plan of a sheet's bytes, or the line of its refusal. The list for the offsets has room for every street.
+#[no_mangle]
+pub extern "C" fn corbatan_print(bytes: &[u8]) -> CorbatanText
+    ensures { λ r. ⌜ r ≡ flatText (printedOf (equalText (now (bytes .entry)) maxSignals)) ⌝ }
+{
+    let text = printed::equal_text(bytes, Street::MAX_SIGNALS);
+    let bytes = text.bytes;
+    CorbatanText {
+        count: text.count,
+        bytes,
+    }
+}

@@ -1,0 +1,171 @@
+/*
+ * Corbatan: green waves on a street with two-way traffic.
+ *
+ * A street has n signals, numbered 1 to n in order of distance; that way is
+ * outbound, and link k joins signals k and k + 1. Each call takes a street's
+ * numbers, or the bytes of a street sheet, and answers with one struct by
+ * value. The rules behind the numbers are in docs/RULES.md.
+ *
+ * Units. A tick is a tenth of a second, a half is half a tick. Cycles and reds
+ * are in ticks, distances in mm, speeds in mm/s; offsets, widths, instants and
+ * platoons are in halves. H is the cycle in halves, twice its ticks.
+ *
+ * Lists. A list is a pointer and a count of entries, not of bytes.
+ *
+ * What a caller keeps:
+ *   - a pointer is aligned for its entries and has as many of them behind it
+ *     as its count says, none of which changes during the call;
+ *   - a null pointer is allowed where the count is 0;
+ *   - the lent list `offsets` of a plan can be written and overlaps no input;
+ *     inputs may overlap one another, or be the same list.
+ *
+ * What a caller gets: every call returns, whatever the counts and the numbers
+ * are. Numbers that make no street are refused by a code, and a list of the
+ * wrong length is one of the faults. A plan writes the first n entries of the
+ * lent list and no other; a refusal writes none. Nothing is allocated and
+ * nothing is kept between calls, so threads may call at the same time, each
+ * with a lent list of its own.
+ *
+ * Link with libexports.a, which `rt staticlib exports` writes; it is for
+ * x86-64 Linux.
+ */
+#ifndef CORBATAN_H
+#define CORBATAN_H
+
+#include <stddef.h>
+#include <stdint.h>
+
+/* The version of this interface: the major number changes when a program that uses it has to change. */
+#define CORBATAN_VERSION_MAJOR 1
+#define CORBATAN_VERSION_MINOR 0
+#define CORBATAN_VERSION "1.0"
+
+/* How many signals a street can have, and so how long the lists in a CorbatanSheet are. */
+#define CORBATAN_MAX_SIGNALS 32
+
+/* How many bytes a printed text can have. */
+#define CORBATAN_MAX_TEXT 512
+
+/*
+ * What `code` says, and what `place` then names, counted from 1. Of a street's faults the one with the smallest code
+ * is given, at its first place; of a sheet's the first that reading comes to.
+ */
+#define CORBATAN_OK 0       /* Nothing was refused; place 0. */
+#define CORBATAN_SHEET 1    /* The bytes are not formed as a sheet; place 0. */
+#define CORBATAN_COUNT 2    /* n is not 1 to 32, or a list's length does not fit n; place 0. */
+#define CORBATAN_ROOM 3     /* The lent list has fewer than n entries; place 0. */
+#define CORBATAN_CYCLE 4    /* The cycle is not 10 to 6,000 ticks; place 0. */
+#define CORBATAN_RED 5      /* A red is not 1 tick to one tick less than the cycle; the signal. */
+#define CORBATAN_DISTANCE 6 /* A distance is above 20,000,000 mm or not above the one before; the signal. */
+#define CORBATAN_SPEED 7    /* A speed is not 1,000 to 40,000 mm/s; the link. */
+#define CORBATAN_PLATOON 8  /* A platoon is longer than 100,000 halves; 1 outbound, 2 inbound. */
+#define CORBATAN_WIDTH 9    /* A requested width is out of its range; place 0. */
+#define CORBATAN_OFFSET 10  /* A measured offset is not below H; the signal. */
+
+#ifdef __cplusplus
+extern "C" {
+#endif
+
+/* A plan, or a refusal, of which every number but the code and the place is 0. */
+typedef struct CorbatanPlan {
+    uint32_t code;      /* 0 for a plan, else the number of the refusal. */
+    uint32_t place;     /* The signal, link or direction that was refused, counted from 1, or 0. */
+    uint32_t reference; /* The reference signal c, from 1 to n. */
+    int32_t b;          /* B, the width of both bands in the equal plan, in halves; negative where it has none. */
+    uint32_t outbound;  /* The width of the outbound band, in halves. */
+    uint32_t inbound;   /* The width of the inbound band, in halves. */
+    uint32_t rounded;   /* How many links have a travel time, either way, that was rounded to whole ticks. */
+    uint32_t starts;    /* The instant at c at which the outbound band starts, in halves, below H. */
+    uint32_t ends;      /* The instant at c at which the inbound band ends, in halves, below H. */
+} CorbatanPlan;
+
+/* The bands of given offsets, a band of width 0 with start 0; or a refusal, whose numbers but code and place are 0. */
+typedef struct CorbatanMeasure {
+    uint32_t code;           /* 0 for a measure, else the number of the refusal. */
+    uint32_t place;          /* The signal or link that was refused, counted from 1, or 0. */
+    uint32_t outbound_width; /* The width of the outbound band, in halves. */
+    uint32_t outbound_start; /* The least instant at signal 1 at which a band of that width starts, in halves. */
+    uint32_t inbound_width;  /* The width of the inbound band, in halves. */
+    uint32_t inbound_start;  /* The least instant at signal n at which a band of that width starts, in halves. */
+} CorbatanMeasure;
+
+/* The numbers of a sheet, which the call that uses them judges, or a refusal, of which all but the code is 0. */
+typedef struct CorbatanSheet {
+    uint32_t code;                            /* 0 for a sheet that was read, else 1 or 2. */
+    uint32_t place;                           /* Always 0: the reader's refusals name no place. */
+    size_t signals;                           /* n, the count of signals; there are n - 1 links. */
+    uint32_t cycle;                           /* The cycle, in ticks. */
+    uint32_t reds[CORBATAN_MAX_SIGNALS];      /* Each signal's red, in ticks; 0 from entry n on. */
+    uint32_t distances[CORBATAN_MAX_SIGNALS]; /* Each signal's distance from the origin, in mm; 0 from entry n on. */
+    uint32_t outbound[CORBATAN_MAX_SIGNALS];  /* Each link's outbound speed, in mm/s; 0 from entry n - 1 on. */
+    uint32_t inbound[CORBATAN_MAX_SIGNALS];   /* Each link's inbound speed, in mm/s; 0 from entry n - 1 on. */
+} CorbatanSheet;
+
+/* A printed text. */
+typedef struct CorbatanText {
+    size_t count;                     /* How many bytes the text has. */
+    uint8_t bytes[CORBATAN_MAX_TEXT]; /* The text in ASCII, each line with its line end; 0 from entry `count` on. */
+} CorbatanText;
+
+/* Reads a street sheet from its bytes. */
+CorbatanSheet corbatan_read(const uint8_t *bytes, size_t bytes_count);
+
+/* Prints the equal plan of a sheet's bytes: a line of numbers and then one offset a line, or a refusal's one line. */
+CorbatanText corbatan_print(const uint8_t *bytes, size_t bytes_count);
+
+/*
+ * Plans with both bands of one width. Each of the plans takes the cycle in ticks, n reds in ticks, n distances in mm,
+ * n - 1 outbound and n - 1 inbound speeds in mm/s, and lends a list of n entries or more for the offsets in halves.
+ */
+CorbatanPlan corbatan_equal(
+    uint32_t cycle,
+    const uint32_t *reds, size_t reds_count,
+    const uint32_t *distances, size_t distances_count,
+    const uint32_t *outbound, size_t outbound_count,
+    const uint32_t *inbound, size_t inbound_count,
+    uint32_t *offsets, size_t offsets_count);
+
+/* Plans with a requested width of the outbound band, in halves. */
+CorbatanPlan corbatan_outbound(
+    uint32_t cycle,
+    const uint32_t *reds, size_t reds_count,
+    const uint32_t *distances, size_t distances_count,
+    const uint32_t *outbound, size_t outbound_count,
+    const uint32_t *inbound, size_t inbound_count,
+    uint32_t width,
+    uint32_t *offsets, size_t offsets_count);
+
+/* Plans with a requested width of the inbound band, in halves. */
+CorbatanPlan corbatan_inbound(
+    uint32_t cycle,
+    const uint32_t *reds, size_t reds_count,
+    const uint32_t *distances, size_t distances_count,
+    const uint32_t *outbound, size_t outbound_count,
+    const uint32_t *inbound, size_t inbound_count,
+    uint32_t width,
+    uint32_t *offsets, size_t offsets_count);
+
+/* Plans by the lengths of the two directions' platoons, in halves. */
+CorbatanPlan corbatan_platoons(
+    uint32_t cycle,
+    const uint32_t *reds, size_t reds_count,
+    const uint32_t *distances, size_t distances_count,
+    const uint32_t *outbound, size_t outbound_count,
+    const uint32_t *inbound, size_t inbound_count,
+    uint32_t outbound_platoon, uint32_t inbound_platoon,
+    uint32_t *offsets, size_t offsets_count);
+
+/* Measures n offsets in halves, which are an input like the other lists and are not written. */
+CorbatanMeasure corbatan_measure(
+    uint32_t cycle,
+    const uint32_t *reds, size_t reds_count,
+    const uint32_t *distances, size_t distances_count,
+    const uint32_t *outbound, size_t outbound_count,
+    const uint32_t *inbound, size_t inbound_count,
+    const uint32_t *offsets, size_t offsets_count);
+
+#ifdef __cplusplus
+}
+#endif
+
+#endif
