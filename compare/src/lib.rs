@@ -3,7 +3,8 @@
 //! The model (`street`, `equal`, `moved`, `bands`, `named`, `exact`, `sheet`, `printed`, `cases`) follows the rules'
 //! signed formulas as they stand, by brute force, and shares nothing with the proved crates. The rest makes sheets
 //! and requests (`random`, `streets`, `limits`, `damage`, `offsets`, `asks`), runs the programs on them (`run`) and
-//! compares (`trial`, `hold`, `coverage`, `asked`, `tally`).
+//! compares (`trial`, `hold`, `coverage`, `asked`, `tally`); `page`, `paper`
+//! and `decimal` read the pages whose sheets and tables are run.
 
 pub mod asked;
 pub mod asks;
@@ -11,6 +12,7 @@ pub mod bands;
 pub mod cases;
 pub mod coverage;
 pub mod damage;
+pub mod decimal;
 pub mod equal;
 pub mod exact;
 pub mod hold;
@@ -18,6 +20,8 @@ pub mod limits;
 pub mod moved;
 pub mod named;
 pub mod offsets;
+pub mod page;
+pub mod paper;
 pub mod printed;
 pub mod random;
 pub mod run;

@@ -1,0 +1,253 @@
+//! docs/PAPER.md and docs/SHEETS.md: their sheets and requests through the programs, and their numbers worked out anew.
+
+use compare::cases::{input, output};
+use compare::decimal::{decimal, digits, gain, nearest, number, seconds};
+use compare::equal::Plan;
+use compare::moved::Ask;
+use compare::page::{sheet, street, Page, Sample};
+use compare::paper::{asked, conversions, euclid, measured, parts, quarter, sample, LINKS, PARTS, SIGNALS};
+use compare::printed::plan_prints;
+use compare::run::Program;
+use compare::sheet::{read, write, LARGEST_SHEET};
+use compare::street::{Street, Times};
+use std::collections::BTreeSet;
+
+fn typists() -> (Page, Vec<Sample>) {
+    let page = Page::open("SHEETS.md");
+    let samples = page.blocks().into_iter().chain(page.slips()).collect();
+    (page, samples)
+}
+
+#[test]
+fn the_typists_page_is_read_whole() {
+    let (page, samples) = typists();
+    let starts = |mark: &str| page.text.lines().filter(|line| line.starts_with(mark)).count();
+    let blocks = page.blocks().len();
+    assert_eq!((blocks, page.slips().len()), (15, 21));
+    assert_eq!((starts("Prints:"), starts("```sheet"), starts("```")), (blocks, blocks, 2 * blocks));
+    let slips = page.text.lines().filter(|line| line.starts_with('|') && line.contains("| `refused"));
+    assert_eq!(slips.count(), page.slips().len());
+    let codes: BTreeSet<&str> = samples.iter().map(|sample| &sample.prints[..9]).collect();
+    let codes: Vec<&str> = codes.into_iter().filter(|code| code.starts_with("refused")).collect();
+    assert_eq!(codes, ["refused 1", "refused 2", "refused 4", "refused 5", "refused 6", "refused 7"]);
+    for mark in page.table("| Mark | Stands for |") {
+        let shown = page.text.lines().filter(|line| !line.starts_with("| `<") && line.contains(&mark[0]));
+        assert!(shown.count() > 0, "{} stands nowhere", mark[0]);
+    }
+    assert!(samples.iter().all(|sample| !sample.sheet.contains(&b'<')), "a mark is unknown");
+}
+
+#[test]
+fn the_typists_sheets_get_what_the_page_says() {
+    let program = Program::plan();
+    for Sample { sheet, prints, line } in typists().1 {
+        let place = format!("docs/SHEETS.md, line {line}");
+        assert_eq!(plan_prints(&sheet), prints, "the model, on {place}");
+        let answer = program.answer(&sheet).unwrap_or_else(|fault| panic!("{place}: {fault}"));
+        assert_eq!(String::from_utf8_lossy(&answer), prints, "plan, on {place}");
+    }
+}
+
+#[test]
+fn an_empty_line_anywhere_is_refused() {
+    let good = String::from_utf8(typists().1.remove(0).sheet).expect("the good sheet");
+    for at in (0..=good.len()).filter(|&at| at == 0 || good.as_bytes()[at - 1] == b'\n') {
+        let sheet = format!("{}\n{}", &good[..at], &good[at..]);
+        assert_eq!(plan_prints(sheet.as_bytes()), "refused 1 0\n", "{sheet:?}");
+    }
+}
+
+#[test]
+fn the_typists_example_is_explained_line_by_line() {
+    let (page, samples) = typists();
+    let typed: String =
+        page.table("| Line | Typed | Means |").iter().map(|row| format!("{}\n", row[1])).collect();
+    assert_eq!(typed.as_bytes(), samples[0].sheet);
+    let speeds = page.table("| km/h | 30 | 40 | 45 | 50 | 60 | 70 | 80 | 100 |");
+    for (km_h, mm_s) in [30, 40, 45, 50, 60, 70, 80, 100].into_iter().zip(&speeds[0][1..]) {
+        assert_eq!(nearest(10_000 * km_h, 36), number(mm_s), "{km_h} km/h");
+    }
+    let good = read(&samples[0].sheet).expect("the good sheet");
+    let Plan { best, offsets, .. } = asked(&good, Ask::Equal);
+    page.says(&format!("B is {best} halves, {} s", seconds(best)));
+    page.says(&format!("its red {} halves, {} s, after", offsets[0], decimal(offsets[0].into(), 20, 1)));
+    let green = good.halves() - 2 * good.reds[0];
+    page.says(&format!("{green} halves are {} s, the whole green of signal 1", green / 20));
+}
+
+#[test]
+fn the_longest_sheet_of_a_street_is_as_the_page_says() {
+    let longest = Street {
+        cycle: 6_000,
+        reds: vec![5_999; 32],
+        distances: (19_999_969..=20_000_000).collect(),
+        outbound: vec![40_000; 31],
+        inbound: vec![40_000; 31],
+    };
+    let sheet = write(&longest);
+    assert!(!plan_prints(&sheet).starts_with("refused") && sheet.len() < LARGEST_SHEET);
+    typists().0.says(&format!("a street within the limits never needs more than {}.", sheet.len()));
+}
+
+#[test]
+fn the_papers_signals_became_the_sheets() {
+    let rows = Page::open("PAPER.md").table(SIGNALS);
+    let [sample, euclid, in_seconds, fitted] = ["sample", "euclid", "euclid-seconds", "euclid-fitted"]
+        .map(|name| street(&format!("paper-{name}.txt")));
+    assert_eq!(rows.len(), 10);
+    for (k, row) in rows.iter().enumerate() {
+        assert_eq!(number(&row[0]), k as i128 + 1);
+        assert_eq!(number(&row[1]) * 3_048, number(&row[2]) * 10);
+        assert_eq!(digits(&row[3]), number(&row[4]), "tenths of a second are ticks");
+        assert_eq!(nearest(digits(&row[5]) * 650, 100), number(&row[6]));
+        assert_eq!(decimal(number(&row[4]), 650, 2), row[5], "the sample's red, as Euclid's would print");
+        assert_eq!(i128::from(sample.reds[k]), number(&row[4]));
+        assert_eq!(i128::from(euclid.reds[k]), number(&row[6]));
+        assert_eq!(decimal(fitted.reds[k].into(), 650, 2), row[5], "the fitted red, as it would print");
+        for street in [&sample, &euclid, &in_seconds, &fitted] {
+            assert_eq!(i128::from(street.distances[k]), number(&row[2]));
+        }
+    }
+    assert_eq!(in_seconds.reds, sample.reds);
+    let changed = (0..10).filter(|&k| fitted.reds[k] != euclid.reds[k]);
+    assert_eq!(changed.map(|k| (k, fitted.reds[k])).collect::<Vec<_>>(), [(0, 304), (1, 258)]);
+    for street in [&sample, &euclid, &in_seconds, &fitted] {
+        assert_eq!((street.cycle, &street.outbound), (650, &street.inbound));
+    }
+    for street in [&euclid, &in_seconds, &fitted] {
+        assert_eq!((&street.outbound[..], Times::of(street).not_whole), (&[15_240; 9][..], 0));
+    }
+}
+
+#[test]
+fn the_papers_links_became_the_sheets() {
+    let (page, sample) = (Page::open("PAPER.md"), street("paper-sample.txt"));
+    let (rows, signals, times) = (page.table(LINKS), page.table(SIGNALS), Times::of(&sample));
+    assert_eq!((rows.len(), times.not_whole), (9, 9));
+    for (k, (row, parts)) in rows.iter().zip(parts(&page)).enumerate() {
+        assert_eq!(number(&row[0]), k as i128 + 1);
+        assert_eq!(number(&row[1]), number(&signals[k + 1][1]) - number(&signals[k][1]));
+        assert_eq!(nearest(number(&row[2]) * 44_704, 100), number(&row[3]));
+        assert_eq!(i128::from(sample.outbound[k]), number(&row[3]));
+        assert_eq!(decimal(parts, PARTS, 3), row[4]);
+        assert_eq!(nearest(parts, PARTS), number(&row[5]));
+        assert_eq!(i128::from(times.t(k, k + 1)), number(&row[5]));
+        assert_eq!(gain(number(&row[5]) * PARTS - parts, PARTS), row[6]);
+    }
+}
+
+#[test]
+fn the_papers_volumes_became_platoons() {
+    let rows = Page::open("PAPER.md").table("| Volume, veh/h | Cycles | Halves |");
+    assert_eq!(rows.len(), 7);
+    for row in rows {
+        let (over, under) =
+            if row[0].is_empty() { (digits(&row[1]), 10_000) } else { (number(&row[0]) * 2, 3_600) };
+        assert_eq!(decimal(over, under, 4), row[1]);
+        assert_eq!(nearest(over * 1_300, under), number(&row[2]));
+    }
+}
+
+#[test]
+fn the_programs_answer_as_the_papers_page_says() {
+    let rows = Page::open("PAPER.md").table("| Sheet | Request | Reply | Offsets |");
+    assert_eq!(rows.len(), 18);
+    let case = |row: &Vec<String>| [row[1].as_bytes(), b"\n", &sheet(&row[0])].concat();
+    let text = |row: &Vec<String>| {
+        let offsets: String = row[3].split_whitespace().map(|offset| format!("{offset}\n")).collect();
+        format!("{}\n{offsets}\n", row[2])
+    };
+    let bytes = input(&rows.iter().map(case).collect::<Vec<_>>());
+    let expected: String = rows.iter().map(text).collect();
+    assert_eq!(output(&bytes), expected, "the model");
+    let answer = Program::cases().answer(&bytes).unwrap_or_else(|fault| panic!("{fault}"));
+    assert_eq!(String::from_utf8_lossy(&answer), expected, "cases");
+}
+
+/// The sample's plans: for the volumes of a heading, inbound first, and what the platoon lost in parts of a half.
+const COMBINATIONS: [(&str, Ask, i128); 3] = [
+    ("400 400", Ask::Platoons(289, 289), 0),
+    ("600 200", Ask::Platoons(144, 433), PARTS / 3),
+    ("850 0", Ask::Platoons(0, 614), 0),
+];
+
+#[test]
+fn the_papers_widths_stand_beside_ours() {
+    let (page, sample) = (Page::open("PAPER.md"), street("paper-sample.txt"));
+    let rows =
+        page.table("| Inbound veh/h | Outbound veh/h | Paper: inbound | Ours | Paper: outbound | Ours |");
+    assert_eq!(rows.len(), 3);
+    // The paper's method at exact times, inbound and outbound, in parts of 33 to a second.
+    let exact = [[3 * 129, 3 * 129], [11 * 65, 6 * 129 - 11 * 65], [33 * 34, 0]];
+    for ((row, (volumes, ask, _)), exact) in rows.iter().zip(COMBINATIONS).zip(exact) {
+        for (cell, width) in [&row[2], &row[4]].into_iter().zip(exact) {
+            let unit = 10i128.pow((cell.len() - cell.find('.').expect("a point") - 1) as u32);
+            assert!((33 * digits(cell) - width * unit).abs() < 33 * unit / 100_000, "{cell}");
+        }
+        let plan = asked(&sample, ask);
+        assert_eq!(format!("{} {}", row[0], row[1]), volumes);
+        assert_eq!((plan.reference, &row[3], &row[5]), (7, &seconds(plan.inbound), &seconds(plan.outbound)));
+    }
+}
+
+/// The header of the offsets for two volumes, inbound first.
+fn header(volumes: &str) -> String {
+    let (inbound, outbound) = volumes.split_once(' ').expect("two volumes");
+    let papers = format!("| Signal | Paper, {inbound} in, {outbound} out | In s |");
+    papers + " Ours, halves | In s | Ours less paper's, s | Way from 7 gained, ticks |"
+}
+
+#[test]
+fn two_causes_account_for_every_offset() {
+    let (page, sample) = (Page::open("PAPER.md"), street("paper-sample.txt"));
+    page.says("no offset is further off than 0.067 s");
+    let (exact, times, equal) = (parts(&page), Times::of(&sample), asked(&sample, Ask::Equal));
+    for (volumes, ask, lost) in &COMBINATIONS[1..] {
+        let (rows, offsets) = (page.table(&header(volumes)), asked(&sample, *ask).offsets);
+        assert_eq!(rows.len(), 10);
+        for (j, row) in rows.iter().enumerate() {
+            let (from, to) = (j.min(6), j.max(6));
+            let way = exact[from..to].iter().sum::<i128>() * if j < 6 { -1 } else { 1 };
+            let gained = i128::from(times.t(6, j)) * PARTS - way;
+            // The paper's offset has eight decimals of a cycle of 65 s.
+            let (papers, unit) = (digits(&row[1]) * 65, 100_000_000);
+            let apart = i128::from(offsets[j]) * unit / 20 - papers;
+            let shown =
+                [decimal(papers, unit, 3), offsets[j].to_string(), seconds(offsets[j]), gain(apart, unit)];
+            assert_eq!((number(&row[0]), &row[2..6]), (j as i128 + 1, &shown[..]));
+            assert_eq!(row[6], gain(gained, PARTS));
+            let lowered = offsets[j] != equal.offsets[j];
+            let cause = if lowered { lost - 2 * gained } else { 0 };
+            assert_eq!(gain(cause, 20 * PARTS), row[5], "signal {} of {volumes}", j + 1);
+            assert!(apart.abs() < 67 * unit / 1_000);
+            // The digits that the paper prints are good to some hundred-thousandths of a second.
+            assert!((apart * 20 * PARTS - cause * unit).abs() < 20 * PARTS * unit / 20_000);
+        }
+    }
+}
+
+#[test]
+fn the_papers_streets_are_told_as_they_are() {
+    let page = Page::open("PAPER.md");
+    let own = |volumes: &str| -> Vec<i64> {
+        let halves = |row: &Vec<String>| nearest(digits(&row[1]) * 1_300, 100_000_000) % 1_300;
+        page.table(&header(volumes)).iter().map(|row| halves(row) as i64).collect()
+    };
+    let measured = measured(&own("600 200"), &own("850 0"));
+    let told: Vec<String> =
+        [conversions(), sample(&page), measured, euclid(), quarter()].into_iter().flatten().collect();
+    assert!(told.len() >= 56, "{} sentences are held", told.len());
+    told.iter().for_each(|sentence| page.says(sentence));
+}
+
+#[test]
+fn no_two_signals_of_the_paper_are_a_quarter_cycle_apart() {
+    let page = Page::open("PAPER.md");
+    let euclid: Vec<i128> = page.table(LINKS).iter().map(|row| number(&row[1]) * PARTS / 5).collect();
+    for links in [parts(&page), euclid] {
+        for (from, to) in (0..9).flat_map(|from| (from + 1..10).map(move |to| (from, to))) {
+            let way = links[from..to].iter().sum::<i128>() % (650 * PARTS);
+            assert!(4 * way != 650 * PARTS && 4 * way != 3 * 650 * PARTS, "{from} and {to}");
+        }
+    }
+}
