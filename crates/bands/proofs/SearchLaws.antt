@@ -18,7 +18,7 @@ use Rattle.circle.proofs.Man.{man-lt, man-is, man-turns}
 use Rattle.circle.proofs.Over.{minBelow, min-more}
 use Rattle.circle.proofs.Arcs.{since}
 use Rattle.circle.proofs.Stretches.{Proper}
-use Rattle.circle.proofs.Longest.{left, longest, endAt, since-end}
+use Rattle.circle.proofs.Longest.{left, endAt, since-end}
 use Rattle.circle.proofs.Candidates.{from, Best, best-wider, best-sooner, best-stays, best-band}
 use Rattle.circle.proofs.Alike.{past, Alike, width-alike, start-alike}
 use Rattle.street.specs.Streets.{timedStreet, Sound}

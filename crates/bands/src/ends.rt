@@ -3,19 +3,9 @@
 use crate::Direction;
 use street::Street;
 ghost use mathlib.Core.Path.{_≡_};
-ghost use Prim.Native.Nat.{_≤_, _<_};
-ghost use lib.IntN.{pos, _-ℤ_};
-ghost use Rattle.circle.specs.Man.{man};
+ghost use Prim.Native.Nat.{_<_};
 ghost use Rattle.street.specs.Streets.{padded, timedStreet, Sound};
 ghost use Rattle.bands.specs.Search.{lagOf, endOf, Onward, Placed};
-
-// The remainder of a - b by h, in 0 to h - 1.
-fn remainder(h: u32, a: u32, b: u32) -> u32
-    requires { ⌜ (1 ≤ h) × (h ≤ 12000) × (a ≤ 20000000) ⌝ }
-    ensures { λ r. ⌜ r ≡ man h (pos a -ℤ pos b) ⌝ }
-{
-    (a + (h - b % h)) % h
-}
 
 // How long after its departure a car is at signal j, in halves. Outbound it departs at signal 1, inbound at signal n.
 fn lag(s: Street, direction: Direction, j: usize) -> u32
@@ -41,7 +31,7 @@ pub fn ends(s: Street, offsets: &[u32], direction: Direction) -> [u32; 32]
     let mut all = [0u32; 32];
     let mut j: usize = 0;
     while j < n {
-        all[j] = remainder(h, offsets[j] + s.reds[j], lag(s, direction, j));
+        all[j] = circle::remainder(h, offsets[j] + s.reds[j], lag(s, direction, j));
         j += 1;
     }
     all

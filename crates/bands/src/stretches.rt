@@ -4,30 +4,17 @@ use crate::Band;
 use street::Street;
 ghost use mathlib.Core.Path.{_≡_};
 ghost use Prim.Native.Nat.{_≤_, _<_};
-ghost use lib.IntN.{pos, _-ℤ_};
-ghost use Rattle.circle.specs.Man.{man};
 ghost use Rattle.circle.specs.Method.{halves};
 ghost use Rattle.street.specs.Streets.{timedStreet, Sound};
 ghost use Rattle.bands.specs.Search.{seen, OnCycle, longestFrom, leftBy, widerOf};
 ghost use Rattle.bands.specs.Measure.{bandOf};
-
-// The time since a red ended, at the instant x. Both lie on the cycle, so a comparison does for the division.
-fn since(h: u32, x: u32, end: u32) -> u32
-    requires { ⌜ (h ≤ 12000) × (x < h) × (end < h) ⌝ }
-    ensures { λ r. ⌜ r ≡ man h (pos x -ℤ pos end) ⌝ }
-{
-    if end <= x {
-        return x - end;
-    }
-    x + h - end
-}
 
 // What a red leaves of the cycle for a stretch from x on.
 fn left(h: u32, x: u32, end: u32, red: u32) -> u32
     requires { ⌜ (h ≤ 12000) × (x < h) × (end < h) × (red ≤ 6000) ⌝ }
     ensures { λ r. ⌜ r ≡ leftBy h x end red ⌝ }
 {
-    let gone = 2 * red + since(h, x, end);
+    let gone = 2 * red + circle::back(h, x, end);
     if h < gone {
         return 0;
     }

@@ -1,5 +1,7 @@
 -- The working form of a stretch: how long since each signal's red last ended. No proof after this one speaks of single instants. Assumes nothing.
 use Prim.Native.Nat.{ℕ, _+_, _≤_, _<_}
+use native.Mathlib.Omega.{arith}
+use native.Mathlib.Decide.{decLe}
 use lib.IntN.{pos, _-ℤ_}
 use Rattle.circle.specs.Man.{man}
 use Rattle.circle.specs.Bands.{Way}
@@ -11,3 +13,11 @@ since w x j = man (w .around) (pos (x + w .lag j) -ℤ pos (w .start j + w .leng
 -- k departures from x on pass every signal that has a red before that red comes round again
 pub record Passes (w : Way) (x k : ℕ) : Type 0 where
   pub each : (j : ℕ) → j < w .signals → 0 < w .length j → since w x j + k + w .length j ≤ w .around
+
+-- a width that keeps to a bound where there is one keeps to it
+pub where-some : (v top : ℕ) → (1 ≤ v → v ≤ top) → v ≤ top
+where-some v top keeps = go (decLe 1 v)
+  where
+    go : Dec (1 ≤ v) → v ≤ top
+    go (yes some) = keeps some
+    go (no none) = omega arith

@@ -2,15 +2,14 @@
 -- smallest start among equals; one more candidate takes its place, or does not. The best of all of them is the band: a stretch of the greatest width starts at a candidate
 -- and at no other instant. Where no signal has a red, the band is the whole cycle from 0. Assumes nothing.
 use Prim.Native.Nat.{ℕ, zero, suc, _+_, _≤_, _<_}
-use mathlib.Core.Path.{_≡_, refl, sym, ap, _∙_, fun-ext}
+use mathlib.Core.Path.{_≡_, refl, sym, ap, _∙_}
 use mathlib.Core.Logic.{_⊎_, ⊎-elim}
 use native.Mathlib.Omega.{arith}
 use native.Mathlib.Nat.{eq-or-lt-of-le}
 use Rattle.circle.specs.Bands.{Way, width, bandStart}
-use Rattle.circle.proofs.Over.{minBelow, maxBelow, max-ge}
 use Rattle.circle.proofs.Arcs.{Passes}
 use Rattle.circle.proofs.Stretches.{Proper, width-ge, width-le, band-starts, start-none}
-use Rattle.circle.proofs.Longest.{longest, left, longest-least, longest-passes, longest-ge, longest-width, starts-ending, endAt, end-lt, end-is}
+use Rattle.circle.proofs.Longest.{longest, longest-passes, longest-ge, longest-width, starts-ending, endAt, end-lt, end-is}
 
 -- the longest stretch from a candidate's start
 abbrev pub from : Way → ℕ → ℕ
@@ -157,30 +156,6 @@ best-band w proper j lj red v x best = go (width w) refl v refl
         let p′ : Passes w (endAt w (h .signal)) (width w) = record { each = λ i l r. omega (arith, p .each i l r, whole) } in
         let later = band-starts w proper one .least (endAt w (h .signal)) (end-lt w proper (h .signal)) p′ in
         record { wide = same; starts = omega (arith, c .starts, h .starts, sooner, later) }
-
-max-le : (n : ℕ) (g : ℕ → ℕ) (v : ℕ) → ((k : ℕ) → k < n → g k ≤ v) → maxBelow n g ≤ v
-unfolding maxBelow
-max-le zero g v each = omega arith
-max-le (suc n) g v each = omega (arith, max-le n g v (λ k l. each k (omega arith)), each n (omega arith))
-
--- so the width is the greatest of the candidates' longest stretches
-pub width-greatest : (w : Way) → Proper w → (j : ℕ) → j < w .signals → 0 < w .length j → width w ≡ maxBelow (w .signals) (from w)
-width-greatest w proper j lj red = go (width w) refl
-  where
-    most : maxBelow (w .signals) (from w) ≤ width w
-    most = max-le (w .signals) (from w) (width w) (λ k l. longest-width w proper (endAt w k))
-
-    go : (a : ℕ) → width w ≡ a → width w ≡ maxBelow (w .signals) (from w)
-    go zero e = omega (arith, most)
-    go (suc a) e =
-        let one : 1 ≤ width w = omega arith in
-        let c = start-attains w proper j lj red one in
-        omega (arith, most, c .as-wide, max-ge (w .signals) (from w) (c .signal) (c .below))
-
--- each of which is the least that any signal leaves a stretch from that candidate's start
-pub width-limits : (w : Way) → Proper w → (j : ℕ) → j < w .signals → 0 < w .length j → width w ≡ maxBelow (w .signals) (λ i. minBelow (w .around) (w .signals) (left w (endAt w i)))
-width-limits w proper j lj red =
-    width-greatest w proper j lj red ∙ ap (maxBelow (w .signals)) (fun-ext (λ i. longest-least w proper (endAt w i)))
 
 -- where no signal has a red, every departure is clear
 pub no-red : (w : Way) → Proper w → ((j : ℕ) → j < w .signals → w .length j ≡ 0) → IsBand w (w .around) 0

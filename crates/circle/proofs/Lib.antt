@@ -12,10 +12,9 @@ pub mod Named
 pub mod Perturbation
 pub mod Scale
 pub mod Moving
-pub mod MovedBands
-pub mod MovedBest
+pub mod Planned
 pub mod Platoons
-pub mod EqualBest
+pub mod Best
 pub mod Tests
 pub mod Rounds
 pub mod Stretches

@@ -1,12 +1,12 @@
 -- Laws of the method's numbers. Each remainder in it is that of a difference of two sums of naturals, so a number in range that differs from the difference by whole
 -- turns is u's or the offset's remainder; a pair's width is a natural once it is raised by the cycle. And the numbers go by the signals below the count alone.
 -- Assumes nothing.
-use Prim.Native.Nat.{ℕ, zero, suc, _+_, _-_, _*_, _≤_, _<_}
-use mathlib.Core.Path.{_≡_, refl, sym, ap, ap₂, _∙_}
+use Prim.Native.Nat.{ℕ, _+_, _-_, _*_, _≤_, _<_}
+use mathlib.Core.Path.{_≡_, ap, ap₂, _∙_}
 use mathlib.Core.Bool.{Bool, true, false, cond}
 use native.Mathlib.Omega.{arith}
-use lib.IntN.{ℤ, pos, negsuc, subℕ, _+ℤ_, _-ℤ_}
-use Rattle.circle.specs.Signed.{leℤ, eqℤ, minℤ, maxℤ, orZero}
+use lib.IntN.{pos, subℕ, _+ℤ_, _-ℤ_}
+use Rattle.circle.specs.Signed.{leℤ, eqℤ, maxℤ, orZero}
 use Rattle.circle.specs.Over.{firstBelow, leastBelow, greatestBelow, indexOf}
 use Rattle.circle.specs.Man.{man}
 use Rattle.circle.specs.Method.{Timed, halves, t, t′, u, pairWidth, b, B, reference, phase, offset, equalWidth, redEnd, redStart}

@@ -11,13 +11,13 @@ use lib.IntN.{pos, subℕ, _+ℤ_, _-ℤ_}
 use lib.Dec.{leb}
 use borrow.Author.Tests.{le-leb, leb-true}
 use Rattle.circle.specs.Signed.{leℤ, maxℤ, orZero}
-use Rattle.circle.specs.Method.{Timed, halves, B, reference, phase, offset}
+use Rattle.circle.specs.Method.{Timed, halves, B, reference, phase, offset, equalWidth}
 use Rattle.circle.specs.Moved.{g, inRange, chosen, outboundLowering, inboundLowering, lowered, otherWidth}
 use Rattle.circle.proofs.Signed.{sub-eq, pos-sub, pos-minus, add-sub, minus-sub, le-sub, max-sub, orZero-sub}
 use Rattle.circle.proofs.Man.{Turns, man-turns}
-use Rattle.circle.proofs.Over.{minBelow, maxBelow, max-ge, least-raised}
+use Rattle.circle.proofs.Over.{minBelow, maxBelow, least-raised}
 use Rattle.circle.proofs.Method.{u-is, u-range}
-use Rattle.circle.proofs.Raised.{Fit, larger-raised, b⁺, B-raised, low}
+use Rattle.circle.proofs.Raised.{Fit, b⁺, B-raised, low}
 use Rattle.circle.proofs.Reference.{reference-first, u-turns, leaves, phase-own}
 
 -- B, raised by the cycle
@@ -142,9 +142,6 @@ module _ (s : Timed) (fit : Fit s) where
       let l : max (1 + halves s) (B⁺ s) ≤ w + halves s = omega arith in
       tested w ∙ ap₂ (λ p q. cond p q false) (le-leb (max (1 + halves s) (B⁺ s)) (w + halves s) l) (le-leb w (green s) fits)
 
-  pub granted : (w : ℕ) → Asked s w → inRange s w ≡ true
-  granted w a = within w (a .some) (a .reaches) (green-from w (a .fits))
-
   -- the lowerings and the other direction's width
   pub outbound-lowering : (w j : ℕ) → outboundLowering s w j ≡ chosen s j + w - B⁺ s
   unfolding outboundLowering
@@ -171,6 +168,10 @@ module _ (s : Timed) (fit : Fit s) where
       ∙ add-sub Bp H Bp H
       ∙ sub-eq (Bp + Bp) (H + H) (2 * Bp) (2 * H) (omega arith)
 
+  pub equal-width : equalWidth s ≡ B⁺ s - halves s
+  unfolding equalWidth
+  equal-width = ap orZero (B-raised s fit) ∙ orZero-sub (B⁺ s) (halves s)
+
   pub other-width : (w : ℕ) → otherWidth s w ≡ 2 * B⁺ s - (2 * halves s + w)
   unfolding otherWidth
   other-width w =
@@ -182,27 +183,16 @@ module _ (s : Timed) (fit : Fit s) where
       ∙ sub-eq (2 * Bp + 0) (2 * H + w) (2 * Bp) (2 * H + w) (omega arith))
       ∙ orZero-sub (2 * Bp) (2 * H + w)
 
+  -- where w leaves something, that leaves w
+  pub other-back : (w : ℕ) → 1 ≤ otherWidth s w → otherWidth s (otherWidth s w) ≡ w
+  other-back w some = omega (arith, other-width w, other-width (otherWidth s w))
+
   -- an offset and its lowering make up the equal plan's offset
   pub lowered-turns : (δ : ℕ → ℕ) (j : ℕ) → Turns (halves s) (lowered s δ j + δ j) (offset s (reference s) j)
   unfolding lowered
   lowered-turns δ j = man-turns (halves s) (offset s (reference s) j) (δ j) around
 
   module _ (w : ℕ) (a : Asked s w) where
-    -- B is above w less a cycle
-    above : w < B⁺ s
-    unfolding b⁺
-    above =
-        let some = fit .some in
-        let least = least-of (w + 1) (4 * s .cycle) (s .signals) (larger-raised s 0) (omega (arith, a .fits 0 some)) (λ j l. omega (arith, a .fits j l, u-range s 0 j 0 (fit .turns))) in
-        omega (arith, max-ge (s .signals) (b⁺ s) 0 some)
-
-    -- a lowering is less than a cycle
-    pub outbound-lowering-lt : (j : ℕ) → outboundLowering s w j < halves s
-    outbound-lowering-lt j = omega (arith, outbound-lowering w j, above, chosen-range j, around)
-
-    pub inbound-lowering-lt : (j : ℕ) → j < s .signals → inboundLowering s w j < halves s
-    inbound-lowering-lt j l = omega (arith, inbound-lowering w j, a .fits j l, chosen-range j, around)
-
     -- the reference's own
     pub outbound-lowering-own : outboundLowering s w (reference s) + B⁺ s ≡ w + halves s
     outbound-lowering-own = omega (arith, outbound-lowering w (reference s), chosen-own, a .reaches)

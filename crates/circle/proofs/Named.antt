@@ -1,103 +1,92 @@
--- The named bands of the equal plan. The outbound one starts at the reference as its red ends; there the time since signal j's red ended is H - u(j), for the u of the chosen
--- phase. The inbound one ends at the reference as its red starts; there that time is u(j) less j's red and the band. Each leaves room for the band before j's next red, since
--- u(j) less j's red is at least B. Assumes nothing.
+-- Named bands. A band is named by an instant at the reference: outbound by its start there, as the red ends, inbound by its end, as the red starts. Take any offsets that are the
+-- equal plan's, each lowered by its own amount, by nothing too. Then the time since signal j's red ended is u(j)'s, more by j's lowering and less by the reference's. So both bands
+-- pass where two inequalities hold at each signal, and they are the same two each way once the two lowerings change places. Assumes nothing.
 use Prim.Native.Nat.{ℕ, _+_, _-_, _*_, _≤_, _<_}
 use mathlib.Core.Path.{_≡_}
 use native.Mathlib.Omega.{arith}
-use Rattle.circle.specs.Method.{Timed, halves, u, reference, phase, offset, redEnd, redStart}
-use Rattle.circle.specs.Bands.{outboundWay, inboundWay}
-use Rattle.circle.proofs.Man.{Turns}
-use Rattle.circle.proofs.Over.{maxBelow}
-use Rattle.circle.proofs.Method.{u-range}
-use Rattle.circle.proofs.Raised.{Fit, b⁺}
+use lib.IntN.{pos, _-ℤ_}
+use Rattle.circle.specs.Man.{man}
+use Rattle.circle.specs.Method.{Timed, halves, reference, phase, offset, redEnd, redStart}
+use Rattle.circle.specs.Bands.{Way, outboundWay, inboundWay}
+use Rattle.circle.specs.Moved.{chosen}
+use Rattle.circle.proofs.Man.{Turns, man-lt, man-turns}
+use Rattle.circle.proofs.Raised.{Fit}
 use Rattle.circle.proofs.Arcs.{since, Passes}
 use Rattle.circle.proofs.Since.{Rising, since-is, start-turns, end-turns}
-use Rattle.circle.proofs.Reflection.{twice, offset-turns, offset-patterned}
-use Rattle.circle.proofs.Reference.{reference-first, u-turns, leaves, offset-own}
+use Rattle.circle.proofs.Reflection.{twice, offset-patterned}
+use Rattle.circle.proofs.Reference.{reference-first, offset-own}
+use Rattle.circle.proofs.Moving.{chosen-range, chosen-turns}
 
--- the offsets of the equal plan
-abbrev pub plan : Timed → ℕ → ℕ
-plan s = offset s (reference s)
+-- the instant at which a departure a later than x comes by the signal c
+abbrev pub Meets : Way → ℕ → ℕ → ℕ → ℕ → Type 0
+Meets w c instant a x = Turns (w .around) (x + a + w .lag c) instant
 
--- u against the reference under the chosen phase
-abbrev pub chosen : Timed → ℕ → ℕ
-chosen s j = u s (reference s) j (phase s (reference s) j)
+-- every instant has such a departure in the first turn
+pub meets : (w : Way) (c instant a : ℕ) → 0 < w .around → (x : ℕ) × (x < w .around) × Meets w c instant a x
+meets w c instant a h =
+    let o = man-turns (w .around) instant (a + w .lag c) h in
+    (man (w .around) (pos instant -ℤ pos (a + w .lag c)), man-lt (w .around) (pos instant -ℤ pos (a + w .lag c)) h, record { p = o .p; q = o .q; eq = omega (arith, o .eq) })
 
--- a car that departs outbound at x is at the reference as its red ends
-abbrev pub FromEnd : Timed → ℕ → Type 0
-FromEnd s x = Turns (halves s) (x + 2 * s .outbound (reference s)) (redEnd s (reference s) (plan s (reference s)))
+-- a band of v departures with a name: its start where a is 0, its end where a is v
+pub record Named (w : Way) (c instant a v : ℕ) : Type 0 where
+  pub passes : (x : ℕ) → Meets w c instant a x → 1 ≤ v → Passes w x v
 
--- the last of w departures inbound from y on is at the reference just before its red starts
-abbrev pub ToStart : Timed → ℕ → ℕ → Type 0
-ToStart s y w = Turns (halves s) (y + 2 * (s .inbound (s .signals - 1) - s .inbound (reference s)) + w) (redStart s (reference s) (plan s (reference s)))
+-- the two bands that a plan names, v wide outbound and v′ inbound
+pub record Bands (s : Timed) (f : ℕ → ℕ) (v v′ : ℕ) : Type 0 where
+  pub out : Named (outboundWay s f) (reference s) (redEnd s (reference s) (f (reference s))) 0 v
+  pub back : Named (inboundWay s f) (reference s) (redStart s (reference s) (f (reference s))) v′ v′
 
-module _ (s : Timed) (fit : Fit s) where
+-- room for v departures at signal j, where of the two lowerings, its own and the reference's, d takes from it and e adds to it
+pub record Room (s : Timed) (v j d e : ℕ) : Type 0 where
+  pub before : v + 2 * s .red j + d ≤ chosen s j + e
+  pub after : chosen s j + e ≤ halves s + d
+
+module _ (s : Timed) (fit : Fit s) (rising : Rising s) (f δ : ℕ → ℕ) (low : (j : ℕ) → Turns (halves s) (f j + δ j) (offset s (reference s) j)) where
   around : 0 < 2 * s .cycle
   around = omega (arith, fit .turns)
 
-  range : (j : ℕ) → (1 ≤ chosen s j) × (chosen s j ≤ halves s)
-  range j = u-range s (reference s) j (phase s (reference s) j) (fit .turns)
-
-  turn : (j : ℕ) → Turns (halves s) (halves s - chosen s j + (s .red j + s .outbound (reference s) + s .inbound (reference s) + phase s (reference s) j)) (s .red (reference s) + s .outbound j + s .inbound j)
-  turn j = u-turns s (reference s) j (phase s (reference s) j) around
-
-  -- where the reference's red starts and ends: half its length before and after 0
-  own : plan s (reference s) ≡ 0
-  own = offset-own s fit (reference s) (reference-first s fit .below)
-
-  own-start : Turns (halves s) (redStart s (reference s) (plan s (reference s)) + s .red (reference s)) 0
-  own-start =
-      let o = start-turns s (reference s) (plan s (reference s)) around in
-      record { p = o .p; q = o .q; eq = omega (arith, o .eq, own) }
-
-  own-end : Turns (halves s) (redEnd s (reference s) (plan s (reference s))) (s .red (reference s))
-  own-end =
-      let o = end-turns s (reference s) (plan s (reference s)) around in
-      record { p = o .p; q = o .q; eq = omega (arith, o .eq, own) }
+  -- the reference's offset is its lowering before 0
+  own : Turns (halves s) (f (reference s) + δ (reference s)) 0
+  own =
+      let c = reference s in
+      let o = low c in
+      record { p = o .p; q = o .q; eq = omega (arith, o .eq, offset-own s fit c (reference-first s fit .below)) }
 
   -- where signal j's red starts
-  start : (j : ℕ) → j < s .signals → Turns (halves s) (redStart s j (plan s j) + s .red j + (s .outbound (reference s) + s .inbound j)) (s .outbound j + s .inbound (reference s) + phase s (reference s) j)
+  start : (j : ℕ) → j < s .signals → Turns (halves s) (redStart s j (f j) + s .red j + δ j + (s .outbound (reference s) + s .inbound j)) (s .outbound j + s .inbound (reference s) + phase s (reference s) j)
   start j l =
-      let σ = start-turns s j (plan s j) around in
-      let o = offset-turns s (reference s) j (phase s (reference s) j) (plan s j) around (offset-patterned s (reference s) .centre j l) in
-      record { p = σ .p + o .p; q = σ .q + o .q; eq = omega (arith, σ .eq, o .eq) }
+      let σ = start-turns s j (f j) around in
+      let m = low j in
+      let o = offset-patterned s (reference s) around .centre j l in
+      record { p = σ .p + m .p + o .p; q = σ .q + m .q + o .q; eq = omega (arith, σ .eq, m .eq, o .eq) }
 
-  pub outbound-since : (x j : ℕ) → FromEnd s x → j < s .signals → since (outboundWay s (plan s)) x j ≡ halves s - chosen s j
-  outbound-since x j from l =
-      let U = turn j in
+  outbound-since : (x v j : ℕ) → Meets (outboundWay s f) (reference s) (redEnd s (reference s) (f (reference s))) 0 x → j < s .signals → 0 < s .red j → Room s v j (δ j) (δ (reference s)) → since (outboundWay s f) x j + (chosen s j + δ (reference s)) ≡ halves s + δ j
+  outbound-since x v j from l r room =
+      let c = reference s in
+      let U = chosen-turns s fit j in
       let σ = start j l in
-      let E = own-end in
-      since-is (outboundWay s (plan s)) x j (halves s - chosen s j) (omega (arith, range j))
-      (record {
-        p = U .p + σ .p + E .q + from .q;
-        q = U .q + σ .q + E .p + from .p;
-        eq = omega (arith, U .eq, σ .eq, E .eq, from .eq);
-      })
-
-  -- the outbound band: w of at most B departures from there on pass
-  pub outbound-named : (x w : ℕ) → FromEnd s x → w + halves s ≤ maxBelow (s .signals) (b⁺ s) → Passes (outboundWay s (plan s)) x w
-  outbound-named x w from most =
-      record { each = λ j l r. omega (arith, outbound-since x j from l, leaves s fit j l, range j) }
-
-  inbound-turns : (y w j : ℕ) → Rising s → ToStart s y w → j < s .signals → 2 * s .red j + w ≤ chosen s j → Turns (halves s) (chosen s j - (2 * s .red j + w) + (redStart s j (plan s j) + 2 * s .red j)) (y + 2 * (s .inbound (s .signals - 1) - s .inbound j))
-  inbound-turns y w j rising to l room =
-      let U = turn j in
-      let σ = start j l in
-      let E = own-start in
-      let (g, two) = twice (phase s (reference s) j) (s .cycle) (offset-patterned s (reference s) .either j l) in
-      record {
-        p = U .q + σ .p + E .q + to .q;
-        q = 1 + g + U .p + σ .q + E .p + to .p;
-        eq = omega (arith, U .eq, σ .eq, E .eq, to .eq, range j, rising j l, rising (reference s) (reference-first s fit .below));
-      }
-
-  pub inbound-since : (y w j : ℕ) → Rising s → ToStart s y w → w + halves s ≤ maxBelow (s .signals) (b⁺ s) → j < s .signals → 0 < s .red j → since (inboundWay s (plan s)) y j + w + 2 * s .red j ≡ chosen s j
-  inbound-since y w j rising to most l r =
-      let room : 2 * s .red j + w ≤ chosen s j = omega (arith, leaves s fit j l) in
-      let same = since-is (inboundWay s (plan s)) y j (chosen s j - (2 * s .red j + w)) (omega (arith, range j)) (inbound-turns y w j rising to l room) in
+      let o = own in
+      let E = end-turns s c (f c) around in
+      let g = halves s + δ j - (chosen s j + δ c) in
+      let same = since-is (outboundWay s f) x j g (omega arith) (record { p = U .p + σ .p + o .q + E .q + from .q; q = U .q + σ .q + o .p + E .p + from .p; eq = omega (arith, U .eq, σ .eq, o .eq, E .eq, from .eq, chosen-range s fit j) }) in
       omega arith
 
-  -- the inbound band
-  pub inbound-named : (y w : ℕ) → Rising s → ToStart s y w → w + halves s ≤ maxBelow (s .signals) (b⁺ s) → Passes (inboundWay s (plan s)) y w
-  inbound-named y w rising to most =
-      record { each = λ j l r. omega (arith, inbound-since y w j rising to most l (omega arith), range j) }
+  inbound-since : (y v j : ℕ) → Meets (inboundWay s f) (reference s) (redStart s (reference s) (f (reference s))) v y → j < s .signals → 0 < s .red j → Room s v j (δ (reference s)) (δ j) → since (inboundWay s f) y j + (v + 2 * s .red j + δ (reference s)) ≡ chosen s j + δ j
+  inbound-since y v j to l r room =
+      let c = reference s in
+      let U = chosen-turns s fit j in
+      let σ = start j l in
+      let o = own in
+      let E = start-turns s c (f c) around in
+      let (t, two) = twice (phase s c j) (s .cycle) (offset-patterned s c around .either j l) in
+      let g = chosen s j + δ j - (v + 2 * s .red j + δ c) in
+      let same = since-is (inboundWay s f) y j g (omega arith) (record { p = U .q + σ .p + o .q + E .q + to .q; q = 1 + t + U .p + σ .q + o .p + E .p + to .p; eq = omega (arith, U .eq, σ .eq, o .eq, E .eq, to .eq, chosen-range s fit j, rising j l, rising c (reference-first s fit .below)) }) in
+      omega arith
+
+  -- the bands pass where each signal has room
+  pub bands : (v v′ : ℕ) → (1 ≤ v → (j : ℕ) → j < s .signals → Room s v j (δ j) (δ (reference s))) → (1 ≤ v′ → (j : ℕ) → j < s .signals → Room s v′ j (δ (reference s)) (δ j)) → Bands s f v v′
+  bands v v′ room room′ =
+      record {
+        out = record { passes = λ x from some. record { each = λ j l r. let m = room some j l in omega (arith, outbound-since x v j from l (omega arith) m) } };
+        back = record { passes = λ y to some. record { each = λ j l r. let m = room′ some j l in omega (arith, inbound-since y v′ j to l (omega arith) m) } };
+      }

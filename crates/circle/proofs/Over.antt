@@ -8,8 +8,8 @@ use mathlib.Core.Logic.{⊎-elim}
 use native.Mathlib.Omega.{arith}
 use native.Mathlib.Numerals.{add-one}
 use native.Mathlib.Nat.{eq-or-lt-of-le, le-of-suc-le-suc}
-use lib.IntN.{ℤ, pos, subℕ}
-use lib.ListN.{length, length-append, getD, set, drop, take, List·getD-append}
+use lib.IntN.{ℤ, subℕ}
+use lib.ListN.{length, length-append, getD, set, drop}
 use lib.Seq.{set-at, drop-cons, getD-at, append-snoc}
 use Rattle.circle.specs.Signed.{minℤ, maxℤ}
 use Rattle.circle.specs.Over.{Found, nowhere, at, orElse, firstBelow, sumBelow, leastBelow, greatestBelow, listBelow, indexOf}

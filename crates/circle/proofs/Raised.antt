@@ -3,9 +3,9 @@
 use Prim.Native.Nat.{ℕ, _+_, _-_, _*_, _≤_, _<_, max}
 use mathlib.Core.Path.{_≡_, sym, ap, ap₂, _∙_}
 use native.Mathlib.Omega.{arith}
-use lib.IntN.{ℤ, subℕ}
+use lib.IntN.{subℕ}
 use Rattle.circle.specs.Signed.{eqℤ, maxℤ}
-use Rattle.circle.specs.Over.{firstBelow, indexOf}
+use Rattle.circle.specs.Over.{indexOf}
 use Rattle.circle.specs.Method.{Timed, halves, u, pairWidth, b, B, reference}
 use Rattle.circle.proofs.Signed.{max-sub, ne-sub, eqℤ-refl}
 use Rattle.circle.proofs.Over.{minBelow, min-le, maxBelow, least-raised, greatest-raised, first-at}

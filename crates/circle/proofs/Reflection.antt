@@ -52,7 +52,7 @@ reflection w d d′ a x k h m passes =
 -- offsets that stand, round the cycle, at the sum of the two times from c and a phase of 0 or C, in any pattern of phases e
 pub record Patterned (s : Timed) (c : ℕ) (e f : ℕ → ℕ) : Type 0 where
   pub either : (j : ℕ) → j < s .signals → (e j ≡ 0) ⊎ (e j ≡ s .cycle)
-  pub centre : (j : ℕ) → j < s .signals → f j ≡ man (halves s) (t s c j +ℤ t′ s c j +ℤ pos (e j))
+  pub centre : (j : ℕ) → j < s .signals → Turns (halves s) (f j + (s .outbound c + s .inbound j)) (s .outbound j + s .inbound c + e j)
 
 -- twice a phase is a whole number of turns
 pub twice : (e C : ℕ) → (e ≡ 0) ⊎ (e ≡ C) → (r : ℕ) × (2 * e ≡ r * (2 * C))
@@ -72,10 +72,10 @@ offset-turns s c j e f h centre =
     record { p = o .p; q = o .q; eq = omega (arith, o .eq, centre, ap (man (halves s)) (sum s c j e)) }
 
 -- the offsets of the equal plan are of this kind, with the chosen phases for a pattern
-pub offset-patterned : (s : Timed) (c : ℕ) → Patterned s c (phase s c) (offset s c)
+pub offset-patterned : (s : Timed) (c : ℕ) → 0 < halves s → Patterned s c (phase s c) (offset s c)
 unfolding phase offset
-offset-patterned s c =
-    record { either = λ j l. go (leℤ (pairWidth s c j (s .cycle)) (pairWidth s c j 0)); centre = λ j l. refl }
+offset-patterned s c h =
+    record { either = λ j l. go (leℤ (pairWidth s c j (s .cycle)) (pairWidth s c j 0)); centre = λ j l. offset-turns s c j (phase s c j) (offset s c j) h refl }
   where
     go : (p : Bool) → (cond p 0 (s .cycle) ≡ 0) ⊎ (cond p 0 (s .cycle) ≡ s .cycle)
     go true = inl refl
@@ -96,7 +96,7 @@ module _ (s : Timed) (turns : 0 < s .cycle) (rising : Rising s) (c : ℕ) (e f :
         each =
             λ j l r.
             let σ = start-turns s j (f j) around in
-            let o = offset-turns s c j (e j) (f j) around (pattern .centre j l) in
+            let o = pattern .centre j l in
             let a = man-turns (halves s) (2 * s .inbound c) (2 * s .outbound c + 2 * s .inbound (s .signals - 1)) around in
             let (g, two) = twice (e j) (s .cycle) (pattern .either j l) in
             record {

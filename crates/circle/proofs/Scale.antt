@@ -1,22 +1,25 @@
--- Scale: a street counted in N times finer units has every number of the method N times as large, and the same reference; and what passes in the coarse unit passes in the
--- fine one. Each remainder is settled by uniqueness: N times a number in range is in range, and N times an equation of turns is one. Assumes nothing.
+-- Scale: a street counted in N times finer units has B and the reported widths N times as large, and what passes in the coarse unit passes in the fine one. Each remainder is
+-- settled by uniqueness: N times a number in range is in range, and N times an equation of turns is one. Assumes nothing.
 use Prim.Native.Nat.{ℕ, zero, suc, _+_, _-_, _*_, _≤_, _<_, min, max}
 use mathlib.Core.Path.{_≡_, refl, sym, ap, ap₂, subst, _∙_}
+use mathlib.Core.Logic.{inl, inr, ⊎-elim}
 use native.Mathlib.Omega.{arith}
 use native.Mathlib.Decide.{decLe}
 use native.Mathlib.Nat.{mul-le-mul-left, mul-lt-mul-of-pos-left, mul-sub}
-use lib.IntN.{pos, subℕ, _-ℤ_}
+use lib.IntN.{pos, _-ℤ_}
 use Rattle.circle.specs.Man.{man}
-use Rattle.circle.specs.Method.{Timed, halves, u, pairWidth, b, B, reference, redStart}
+use Rattle.circle.specs.Method.{Timed, halves, u, b, equalWidth, redStart}
 use Rattle.circle.specs.Bands.{Way, outboundWay, inboundWay}
-use Rattle.circle.proofs.Signed.{pos-minus}
+use Rattle.circle.specs.Moved.{otherWidth}
 use Rattle.circle.proofs.Man.{Turns, man-lt, man-is, man-turns}
 use Rattle.circle.proofs.Over.{minBelow, maxBelow}
 use Rattle.circle.proofs.Method.{u-is, u-range}
-use Rattle.circle.proofs.Raised.{Fit, raised, larger-raised, b⁺, low, b-raised, B-raised, reference-is}
+use Rattle.circle.proofs.Raised.{Fit, raised, larger-raised, b⁺, low}
 use Rattle.circle.proofs.Arcs.{since, Passes}
 use Rattle.circle.proofs.Since.{along, Stops, Rising, since-turns, passes-at}
-use Rattle.circle.proofs.Reference.{reference-first, u-turns}
+use Rattle.circle.proofs.Reference.{u-turns}
+use Rattle.circle.proofs.Moving.{B⁺, equal-width, other-width}
+use Rattle.circle.proofs.Reflection.{Patterned}
 pub use Rattle.circle.specs.Method.{inUnits as scaled}
 
 -- turns in the finer unit
@@ -100,41 +103,42 @@ module _ (N : ℕ) (s : Timed) (fine : 0 < N) (fit : Fit s) where
       ap₂ max (ap (raised (scaled N s) i j) none ∙ raised-scaled i j 0 l) (raised-scaled i j (s .cycle) l)
       ∙ max-scaled N (raised s i j 0) (raised s i j (s .cycle))
 
-  pub width-scaled : (i j e : ℕ) → pairWidth (scaled N s) i j (N * e) ≡ subℕ (N * u s i j e) (N * (2 * s .red j))
-  unfolding pairWidth
-  width-scaled i j e =
-      let red : 2 * (N * s .red j) ≡ N * (2 * s .red j) = omega arith in
-      pos-minus (u (scaled N s) i j (N * e)) (2 * (N * s .red j)) ∙ ap₂ subℕ (u-scaled i j e) red
-
   -- b(i) and B, raised by the cycle in each unit
-  pub b⁺-scaled : (i : ℕ) → b⁺ (scaled N s) i ≡ N * b⁺ s i
+  b⁺-scaled : (i : ℕ) → b⁺ (scaled N s) i ≡ N * b⁺ s i
   unfolding b⁺
   b⁺-scaled i =
       let top : 4 * (N * s .cycle) ≡ N * (4 * s .cycle) = omega arith in
       ap (λ (x : ℕ). minBelow x (s .signals) (larger-raised (scaled N s) i)) top
       ∙ min-below-scaled N (4 * s .cycle) (s .signals) (larger-raised (scaled N s) i) (larger-raised s i) (larger-scaled i)
 
-  pub b-scaled : (i : ℕ) → b (scaled N s) i ≡ subℕ (N * b⁺ s i) (N * halves s)
-  b-scaled i =
-      let turn : halves (scaled N s) ≡ N * halves s = omega arith in
-      b-raised (scaled N s) fit-scaled i ∙ ap₂ subℕ (b⁺-scaled i) turn
-
   pub greatest-scaled : maxBelow (s .signals) (b⁺ (scaled N s)) ≡ N * maxBelow (s .signals) (b⁺ s)
   greatest-scaled = max-below-scaled N (s .signals) (b⁺ (scaled N s)) (b⁺ s) (λ k l. b⁺-scaled k)
 
-  pub B-scaled : B (scaled N s) ≡ subℕ (N * maxBelow (s .signals) (b⁺ s)) (N * halves s)
-  B-scaled =
-      let turn : halves (scaled N s) ≡ N * halves s = omega arith in
-      B-raised (scaled N s) fit-scaled ∙ ap₂ subℕ greatest-scaled turn
+  -- the widths that are reported from it
+  pub equal-scaled : equalWidth (scaled N s) ≡ N * equalWidth s
+  equal-scaled =
+      let turn : 2 * (N * s .cycle) ≡ N * (2 * s .cycle) = omega arith in
+      equal-width (scaled N s) fit-scaled
+      ∙ ap₂ _-_ greatest-scaled turn
+      ∙ sym (mul-sub N (B⁺ s) (halves s))
+      ∙ ap (λ (x : ℕ). N * x) (sym (equal-width s fit))
 
-  pub reference-scaled : reference (scaled N s) ≡ reference s
-  reference-scaled =
-      let c = reference s in
-      let m = reference-first s fit in
-      sym
-      (reference-is (scaled N s) fit-scaled c (m .below)
-      (b⁺-scaled c ∙ ap (λ (x : ℕ). N * x) (m .best) ∙ sym greatest-scaled)
-      (λ k l. omega (arith, b⁺-scaled k, greatest-scaled, mul-lt-mul-of-pos-left (m .before k l) fine)))
+  pub other-scaled : (w : ℕ) → otherWidth (scaled N s) (N * w) ≡ N * otherWidth s w
+  other-scaled w =
+      let all : 2 * (2 * (N * s .cycle)) + N * w ≡ N * (2 * halves s + w) = omega arith in
+      let twice : 2 * (N * B⁺ s) ≡ N * (2 * B⁺ s) = omega arith in
+      other-width (scaled N s) fit-scaled (N * w)
+      ∙ ap₂ _-_ (ap (λ (x : ℕ). 2 * x) greatest-scaled ∙ twice) all
+      ∙ sym (mul-sub N (2 * B⁺ s) (2 * halves s + w))
+      ∙ ap (λ (x : ℕ). N * x) (sym (other-width s fit w))
+
+-- half-integer offsets stay so in finer units
+pub patterned-scaled : (N : ℕ) (s : Timed) (c : ℕ) (e f : ℕ → ℕ) → Patterned s c e f → Patterned (scaled N s) c (λ j. N * e j) (λ j. N * f j)
+patterned-scaled N s c e f pattern =
+    record {
+      either = λ j l. ⊎-elim (λ z. inl (omega (arith, ap (λ (x : ℕ). N * x) z))) (λ z. inr (ap (λ (x : ℕ). N * x) z)) (pattern .either j l);
+      centre = λ j l. let o = pattern .centre j l in record { p = o .p; q = o .q; eq = omega (arith, ap (λ (x : ℕ). N * x) (o .eq)) };
+    }
 
 -- a way in N times finer units
 pub record Finer (N : ℕ) (w z : Way) : Type 0 where

@@ -3,7 +3,7 @@
 use Prim.Native.Nat.{ℕ, _+_, _*_, _/_, min}
 use mathlib.Core.Bool.{Bool, cond, false}
 use lib.IntN.{ℤ, pos, _+ℤ_, _-ℤ_}
-use lib.Dec.{leb, ltb, eqb}
+use lib.Dec.{eqb}
 use Rattle.circle.specs.Signed.{leℤ, maxℤ, orZero}
 use Rattle.circle.specs.Over.{leastBelow}
 use Rattle.circle.specs.Man.{man}

@@ -1,5 +1,5 @@
 -- Sums, choices and searches over the indices below a count. An index stands for a signal or a link; index 0 is number 1 on the street.
-use mathlib.Core.Bool.{Bool, true, false, cond}
+use mathlib.Core.Bool.{Bool, cond}
 use Prim.Native.Nat.{ℕ, zero, suc, _+_}
 use mathlib.Core.List.{List, [], _∷_, _++_}
 use lib.IntN.{ℤ, pos}

@@ -1,12 +1,11 @@
 -- Laws of the search over plain numbers: the code's remainders are `man`, its comparisons the choices between signed numbers, and a pair's two numbers are its
 -- widths raised by the cycle. Assumes nothing.
-use Prim.Native.Nat.{ℕ, _+_, _-_, _*_, _/_, _%_, _≤_, _<_, min}
+use Prim.Native.Nat.{ℕ, _+_, _-_, _*_, _≤_, _<_, min}
 use mathlib.Core.Path.{_≡_, sym, ap, ap₂, _∙_}
 use mathlib.Core.Bool.{cond}
 use mathlib.Core.List.{List, [], _∷_}
 use native.Mathlib.Omega.{arith}
 use native.Mathlib.Decide.{decLe}
-use native.Mathlib.Nat.{mod-lt, mod-add-div'}
 use lib.IntN.{pos, subℕ, _-ℤ_}
 use lib.ListN.{getD}
 use borrow.Author.Tests.{le-leb, lt-leb}
@@ -14,7 +13,7 @@ use Rattle.circle.specs.Man.{man}
 use Rattle.circle.specs.Signed.{minℤ, maxℤ, orZero}
 use Rattle.circle.specs.Method.{Timed, halves, u, pairWidth}
 use Rattle.circle.proofs.Signed.{pos-minus, pos-sub, minus-sub, sub-eq, orZero-sub}
-use Rattle.circle.proofs.Man.{man-lt, man-is, man-step}
+use Rattle.circle.proofs.Man.{man-lt, man-step}
 use Rattle.circle.proofs.Method.{u-reduced, raised-width}
 use Rattle.plans.specs.Search.{lowered, place, pairOf, Pair, Reduced}
 

@@ -62,7 +62,7 @@ pub fn offset_of(s: Street, x: [u32; 32], c: usize, raised: u32, shift: Shift, j
     let down = lowered_by(s, raised, shift, j, better.u);
     let ahead = s.outbound[j] + s.inbound[c] + better.phase;
     let behind = s.outbound[c] + s.inbound[j] + down;
-    search::remainder(2 * s.cycle, ahead, behind)
+    circle::remainder(2 * s.cycle, ahead, behind)
 }
 
 // The first entries of the lent list become the offsets; the others stay.
@@ -83,7 +83,7 @@ pub fn red_end(s: Street, j: usize, f: u32) -> u32
     requires { ⌜ Sound s × (j < s .signals) × (f < halves (timedStreet s)) ⌝ }
     ensures { λ r. ⌜ r ≡ redEnd (timedStreet s) j f ⌝ }
 {
-    search::remainder(2 * s.cycle, f + s.reds[j], 0)
+    circle::remainder(2 * s.cycle, f + s.reds[j], 0)
 }
 
 // The instant at which it starts.
@@ -91,5 +91,5 @@ pub fn red_start(s: Street, j: usize, f: u32) -> u32
     requires { ⌜ Sound s × (j < s .signals) × (f < halves (timedStreet s)) ⌝ }
     ensures { λ r. ⌜ r ≡ redStart (timedStreet s) j f ⌝ }
 {
-    search::remainder(2 * s.cycle, f, s.reds[j])
+    circle::remainder(2 * s.cycle, f, s.reds[j])
 }

@@ -4,7 +4,6 @@ use street::Street;
 ghost use mathlib.Core.Path.{_≡_};
 ghost use Prim.Native.Nat.{_*_, _≤_, _<_};
 ghost use lib.IntN.{pos, _-ℤ_};
-ghost use Rattle.circle.specs.Man.{man};
 ghost use Rattle.circle.specs.Signed.{minℤ, maxℤ, orZero};
 ghost use Rattle.circle.specs.Over.{leastBelow};
 ghost use Rattle.street.specs.Streets.{timedStreet, Sound};
@@ -14,25 +13,6 @@ ghost use Rattle.plans.specs.Search.{pairOf, Reduced, Row, wider, Search
 pub struct Candidate {
     pub signal: usize,
     pub raised: u32,
-}
-
-// The remainder of a - b by h, in 0 to h - 1.
-pub fn remainder(h: u32, a: u32, b: u32) -> u32
-    requires { ⌜ (1 ≤ h) × (h ≤ 12000) × (a ≤ 20000000) ⌝ }
-    ensures { λ r. ⌜ r ≡ man h (pos a -ℤ pos b) ⌝ }
-{
-    (a + (h - b % h)) % h
-}
-
-// The same where both lie on the cycle already: a comparison does for the division.
-fn back(h: u32, a: u32, b: u32) -> u32
-    requires { ⌜ (h ≤ 12000) × (a < h) × (b < h) ⌝ }
-    ensures { λ r. ⌜ r ≡ man h (pos a -ℤ pos b) ⌝ }
-{
-    if b <= a {
-        return a - b;
-    }
-    a + h - b
 }
 
 pub fn smaller(a: u32, b: u32) -> u32
@@ -73,7 +53,7 @@ pub fn reduced(s: Street) -> [u32; 32]
     let mut x = [0u32; 32];
     let mut k: usize = 0;
     while k < n {
-        x[k] = remainder(h, s.reds[k], s.outbound[k] + s.inbound[k]);
+        x[k] = circle::remainder(h, s.reds[k], s.outbound[k] + s.inbound[k]);
         k += 1;
     }
     x
@@ -85,8 +65,8 @@ pub fn pair(cycle: u32, from: u32, to: u32, red: u32) -> [u32; 2]
     ensures { λ r. ⌜ r ≡ pairOf cycle from to red ⌝ }
 {
     let h = 2 * cycle;
-    let even = back(h, from, to);
-    let odd = back(h, even, cycle);
+    let even = circle::back(h, from, to);
+    let odd = circle::back(h, even, cycle);
     [2 * h - even - 2 * red, 2 * h - odd - 2 * red]
 }
 

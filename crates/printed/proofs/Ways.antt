@@ -1,6 +1,6 @@
 -- Laws of the whole way: how many entries are lent, that a sheet's arrays give back the lists that were read, and what the text is for a refusal and for a plan. A refusal's
 -- text has no offsets, and a plan's are the first entries of the lent list, whatever stands behind that list. Assumes nothing.
-use Prim.Native.Nat.{ℕ, _+_, _-_, _≤_, _<_, min}
+use Prim.Native.Nat.{ℕ, _+_, _-_, _≤_, _<_}
 use mathlib.Core.Path.{_≡_, refl, sym, ap, ap₂, _∙_, subst}
 use mathlib.Core.Bool.{cond}
 use mathlib.Core.List.{List, _++_}
@@ -12,13 +12,13 @@ use borrow.Author.Tests.{lt-ltb, le-ltb}
 use Rattle.circle.specs.Over.{listBelow}
 use Rattle.circle.proofs.Over.{length-listBelow}
 use Rattle.street.specs.Limits.{maxSignals}
-use Rattle.street.specs.Lists.{Lists, typed, signals}
+use Rattle.street.specs.Lists.{Lists, signals}
 use Rattle.street.specs.Checks.{planChecks}
 use Rattle.street.specs.Times.{timed, m}
 use Rattle.street.specs.declared.Refusal.{Refusal}
 use Rattle.street.specs.declared.Verdict.{Verdict}
 use Rattle.street.specs.declared.Verdict.the-variants.{Passed, Refused}
-use Rattle.sheet.specs.Form.{Writable, text}
+use Rattle.sheet.specs.Form.{Writable}
 use Rattle.sheet.specs.Reading.{Parsed, accepted, refused, parsed, padded, sheetOf, reply, readingOf}
 use Rattle.sheet.specs.declared.Reading.{Reading}
 use Rattle.sheet.proofs.Form.{text-is-accepted, passed-is-text}
@@ -27,7 +27,7 @@ use Rattle.plans.specs.Equal.{equalOffset, equalPlan, written, equalAnswer, equ
 use Rattle.plans.specs.declared.Plan.{Plan}
 use Rattle.plans.specs.declared.Answer.{Answer}
 use Rattle.printed.specs.declared.Printed.{Printed}
-use Rattle.printed.specs.Text.{planLine, offsetLines, refusalLine, textOf, printedOf, Prints}
+use Rattle.printed.specs.Text.{planLine, offsetLines, refusalLine, textOf, Prints}
 use Rattle.printed.specs.Way.{listsOf, lentOf, planText, answerText, equalText, Held}
 
 pub lent-room : (room : ℕ) → room < maxSignals → room ≡ lentOf room
@@ -139,3 +139,8 @@ text-within {t} {r} ok =
 
 pub text-count : {t : List ℕ} {r : Printed} → Prints t r → r .count ≡ length (take (r .count) (r .bytes))
 text-count {t} {r} ok = sym (length-take-le (r .count) (r .bytes) (text-within ok))
+
+-- and the counted bytes are the text
+pub text-is : {t : List ℕ} {r : Printed} → Prints t r → take (r .count) (r .bytes) ≡ t
+text-is {t} {r} ok =
+    ap (λ p. take (p .count) (p .bytes)) (ok .reply) ∙ take-append-seam t (drop (length t) (replicate 512 0))

@@ -1,13 +1,13 @@
 -- The two directions of a street at rounded and at exact times. Where the checks found no fault every speed is above 0, so each link obeys the law of one link, and a link that is
 -- rounded in either direction counts: each direction's exact lags stay within a window of N times m about its rounded ones. Outbound and inbound are two lists of lags of this
 -- kind, and what comes after is said once, of any such list. Assumes nothing.
-use Prim.Native.Nat.{ℕ, _-_, _*_, _<_}
+use Prim.Native.Nat.{ℕ, _-_, _*_}
 use mathlib.Core.Path.{_≡_}
 use native.Mathlib.Omega.{arith}
 use Rattle.circle.specs.Bands.{Way, outboundWay, inboundWay}
 use Rattle.circle.proofs.Raised.{Fit}
 use Rattle.circle.proofs.Since.{along, Stops, Rising}
-use Rattle.circle.proofs.Scale.{scaled, Finer, outbound-finer, inbound-finer}
+use Rattle.circle.proofs.Scale.{scaled, fit-scaled, stops-scaled, rising-scaled, Finer, outbound-finer, inbound-finer}
 use Rattle.street.specs.Lists.{Lists, signals}
 use Rattle.street.specs.Checks.{planChecks}
 use Rattle.street.specs.Times.{linkTicks, roundedLink, m, timed}
@@ -29,6 +29,16 @@ pub record Direction (l : Lists) (N : ℕ) (coarse rounded exact : ℕ → ℕ) 
 
 module _ (l : Lists) (room : ℕ) (passed : planChecks l room ≡ Passed) where
   module _ (N : ℕ) (fine : Fine l N) where
+    -- the street in the fine unit
+    pub fit-fine : Fit (scaled N (timed l))
+    fit-fine = fit-scaled N (timed l) (fine .some) (fit l room passed)
+
+    pub stops-fine : Stops (scaled N (timed l))
+    stops-fine = stops-scaled N (timed l) (fine .some) (fit l room passed) (stops l room passed)
+
+    pub rising-fine : Rising (scaled N (timed l))
+    rising-fine = rising-scaled N (timed l) (fine .some) (fit l room passed) (rising l room passed)
+
     pub outwards : Direction l N (outboundWay (timed l) (λ j. 0) .lag) (outboundWay (scaled N (timed l)) (λ j. 0) .lag) (exactTo N (l .distances) (l .outbound))
     outwards =
         let ok = clear l room passed in

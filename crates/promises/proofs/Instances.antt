@@ -2,7 +2,7 @@
 -- reported width is the row's, by computation; that it is the measured width is the theorem. Assumes nothing.
 use Prim.Native.Nat.{ℕ}
 use mathlib.Core.Path.{_≡_, refl, _∙_}
-use mathlib.Core.List.{List, [], _∷_}
+use mathlib.Core.List.{[], _∷_}
 use Rattle.circle.specs.Over.{firstBelow, sumBelow, leastBelow, greatestBelow}
 use Rattle.circle.specs.Method.{u, pairWidth, b, B, equalWidth}
 use Rattle.circle.specs.Bands.{width, outboundWay, inboundWay}

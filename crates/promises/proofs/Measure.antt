@@ -1,17 +1,15 @@
 -- The measure of a plan's own offsets: they are instants of the cycle, so that no check refuses them, and the widths found are the reported ones. The offsets enter through the
 -- written list, which has the plan's offset at every signal. Assumes nothing.
-use Prim.Native.Nat.{ℕ, _+_, _*_, _≤_, _<_}
-use mathlib.Core.Path.{_≡_, refl, sym, ap, ap₂, _∙_, subst}
-use mathlib.Core.Bool.{false}
-use mathlib.Core.List.{List, [], append-nil}
+use Prim.Native.Nat.{ℕ, _+_, _*_, _<_}
+use mathlib.Core.Path.{_≡_, refl, ap, ap₂, _∙_, subst}
+use mathlib.Core.List.{[], append-nil}
 use native.Mathlib.Omega.{arith}
 use lib.IntN.{pos, _-ℤ_}
 use lib.ListN.{length, getD}
 use borrow.Author.Tests.{lt-leb}
 use Rattle.circle.specs.Man.{man}
-use Rattle.circle.specs.Over.{firstBelow, listBelow}
-use Rattle.circle.specs.Method.{Timed, halves, reference, equalWidth, redStart}
-use Rattle.circle.specs.Bands.{Way, width, bandStart, outboundWay, inboundWay}
+use Rattle.circle.specs.Method.{halves, reference, redStart}
+use Rattle.circle.specs.Bands.{width, bandStart, outboundWay, inboundWay}
 use Rattle.circle.proofs.Over.{first-nowhere, length-listBelow, getD-listBelow}
 use Rattle.circle.proofs.Method.{offset-lt}
 use Rattle.circle.proofs.Alike.{Alike, width-alike}
@@ -20,7 +18,7 @@ use Rattle.street.specs.Checks.{planChecks, orNext, faultAt}
 use Rattle.street.specs.Times.{timed}
 use Rattle.street.specs.declared.Code.the-variants.{Offset}
 use Rattle.street.specs.declared.Verdict.the-variants.{Passed}
-use Rattle.street.proofs.Passed.{clear, enough-room}
+use Rattle.street.proofs.Passed.{enough-room}
 use Rattle.plans.specs.Equal.{equalOffset}
 use Rattle.bands.specs.Measure.{badOffset, offsetCheck, measureChecks, measuredOf, foundOr}
 use Rattle.bands.proofs.CheckLaws.{checks-full}

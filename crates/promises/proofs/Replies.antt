@@ -1,6 +1,6 @@
 -- What rounding costs, of a call's reply. Code 0 is given only where the checks found no fault, and then the contract makes the reply's numbers those of the method and the first
 -- entries of the lent list the equal plan's offsets: so what is proved of the method's numbers holds of the reply's. Assumes nothing.
-use Prim.Native.Nat.{ℕ, _+_, _-_, _*_, _≤_, _<_}
+use Prim.Native.Nat.{ℕ, _+_, _-_, _≤_, _<_}
 use mathlib.Core.Path.{_≡_, refl, sym, ap, subst, _∙_}
 use mathlib.Core.Bool.{true}
 use mathlib.Core.List.{List}
@@ -9,10 +9,8 @@ use lib.ListN.{length, drop, getD}
 use Rattle.circle.specs.Over.{listBelow}
 use Rattle.circle.specs.Method.{Timed, reference, equalWidth}
 use Rattle.circle.specs.Moved.{inRange}
-use Rattle.circle.specs.Bands.{outboundWay, inboundWay}
 use Rattle.circle.proofs.Over.{getD-listBelow}
-use Rattle.circle.proofs.Arcs.{Passes}
-use Rattle.circle.proofs.MovedBands.{FromRed, ToRed}
+use Rattle.circle.proofs.Planned.{equal-bands}
 use Rattle.street.specs.Lists.{Lists, signals}
 use Rattle.street.specs.Codes.{codeNumber}
 use Rattle.street.specs.Checks.{orNext, planChecks}
@@ -36,8 +34,8 @@ use Rattle.promises.specs.Exact.{Fine}
 use Rattle.promises.specs.Moved.{InRange}
 use Rattle.promises.specs.Rounding.{NoneBeats, Short, Exactly, NamedClear, NoneBetter, ReplyKeeps, RequestKeeps}
 use Rattle.promises.proofs.Directions.{fit, stops, rising}
-use Rattle.promises.proofs.Moved.{outbound-stretch, inbound-stretch, platoons-in-range}
-use Rattle.promises.proofs.Rounding.{beats, falls, named, equal-out, equal-back}
+use Rattle.promises.proofs.Moved.{moved-bands, platoons-in-range}
+use Rattle.promises.proofs.Rounding.{beats, falls, kept}
 use Rattle.promises.proofs.Whole.{equal-exactly, equal-exact, moved-exact}
 
 -- no code is 0
@@ -67,15 +65,14 @@ Kept l N f c p =
     × (p .rounded ≡ 0 → Exactly l N f (p .outbound) (p .inbound))
 
 -- the equal plan's numbers, with offsets that agree with it at every signal
-kept : (l : Lists) (room N : ℕ) (f : ℕ → ℕ) → planChecks l room ≡ Passed → Fine l N → ((j : ℕ) → j < signals l → f j ≡ equalOffset (timed l) j) → Kept l N f (reference (timed l)) (equalPlan (timed l) (m l))
+keeps : (l : Lists) (room N : ℕ) (f : ℕ → ℕ) → planChecks l room ≡ Passed → Fine l N → ((j : ℕ) → j < signals l → f j ≡ equalOffset (timed l) j) → Kept l N f (reference (timed l)) (equalPlan (timed l) (m l))
 unfolding Kept
-kept l room N f passed fine same =
+keeps l room N f passed fine same =
     let s = timed l in
-    let out = equal-out l room passed N fine in
-    let back = equal-back l room passed N fine in (
+    let named = equal-bands s (fit l room passed) (rising l room passed) in (
       beats l room passed N fine,
-      falls l room passed N fine (equalOffset s) f same (equalWidth s) (equalWidth s) out back,
-      named l room passed N fine (equalOffset s) f same (equalWidth s) (equalWidth s) out back,
+      falls l room passed N fine (equalOffset s) f same (equalWidth s) (equalWidth s) named,
+      kept l room passed N fine (equalOffset s) f same (equalWidth s) (equalWidth s) named,
       λ none. equal-exactly l room passed N fine none f same,
     )
 
@@ -99,7 +96,7 @@ reply-keeps l entry exit r N call code fine =
     let same : (j : ℕ) → j < signals l → getD exit j 0 ≡ equalOffset s j = λ j h. ap (λ (x : List ℕ). getD x j 0) (call .after) ∙ left (planChecks l room) (signals l) (equalOffset s) entry passed j h in
     let at-c : reference s ≡ reference s + 1 - 1 = omega arith in
     subst (λ p. Kept l N (λ j. getD exit j 0) (p .reference - 1) p) numbers
-    (subst (λ (c : ℕ). Kept l N (λ j. getD exit j 0) c (equalPlan s (m l))) at-c (kept l room N (λ j. getD exit j 0) passed fine same))
+    (subst (λ (c : ℕ). Kept l N (λ j. getD exit j 0) c (equalPlan s (m l))) at-c (keeps l room N (λ j. getD exit j 0) passed fine same))
 
 -- a request that passed its check comes to a shift in range
 width-passed : (s : Timed) (w : ℕ) → widthCheck s w ≡ Passed → inRange s w ≡ true
@@ -130,13 +127,9 @@ unfolding Carried
 carried shift l room N g passed fine range same =
     let s = timed l in
     let f = movedOffset shift s in
-    let ok = fit l room passed in
-    let red = stops l room passed in
-    let rise = rising l room passed in
-    let out : (x : ℕ) → FromRed s f x → 1 ≤ outboundWidth shift s → Passes (outboundWay s f) x (outboundWidth shift s) = λ x from some. outbound-stretch s ok red rise shift range some x from in
-    let back : (y : ℕ) → ToRed s f y (inboundWidth shift s) → 1 ≤ inboundWidth shift s → Passes (inboundWay s f) y (inboundWidth shift s) = λ y to some. inbound-stretch s ok red rise shift range some y to in (
-      falls l room passed N fine f g same (outboundWidth shift s) (inboundWidth shift s) out back,
-      named l room passed N fine f g same (outboundWidth shift s) (inboundWidth shift s) out back,
+    let named = moved-bands s (fit l room passed) (stops l room passed) (rising l room passed) shift range in (
+      falls l room passed N fine f g same (outboundWidth shift s) (inboundWidth shift s) named,
+      kept l room passed N fine f g same (outboundWidth shift s) (inboundWidth shift s) named,
       none-better shift l room N passed fine range,
     )
 

@@ -2,7 +2,7 @@
 -- a window of that length. So an exact band is at most N times m narrower than a stretch of halves at rounded times, and leaves one that is at most N times m narrower than
 -- itself. Counted at a signal c, where both kinds of time agree, a stretch loses at most N times m at each end: what is left of a named band is clear. Assumes nothing.
 use Prim.Native.Nat.{ℕ, zero, suc, _+_, _-_, _*_, _≤_, _<_}
-use mathlib.Core.Path.{_≡_, refl, sym, ap, ap₂, _∙_}
+use mathlib.Core.Path.{_≡_, refl, sym, ap, ap₂, subst, _∙_}
 use mathlib.Core.Bool.{true}
 use native.Mathlib.Omega.{arith}
 use native.Mathlib.Decide.{decLe}
@@ -13,8 +13,9 @@ use Rattle.circle.specs.Method.{halves, redStart}
 use Rattle.circle.specs.Bands.{Way, clear, stretch, width, bandStart, outboundWay}
 use Rattle.circle.proofs.Man.{Turns, man-turns}
 use Rattle.circle.proofs.Tests.{all-each}
-use Rattle.circle.proofs.Arcs.{since, Passes}
+use Rattle.circle.proofs.Arcs.{since, Passes, where-some}
 use Rattle.circle.proofs.Since.{along}
+use Rattle.circle.proofs.Named.{Named, meets}
 use Rattle.circle.proofs.Stretches.{Proper, passes-stretch, since-turns, width-ge, width-le, band-starts}
 use Rattle.circle.proofs.Perturbation.{lags-passes, lags-back, part}
 use Rattle.circle.proofs.Scale.{finer-passes}
@@ -82,8 +83,16 @@ module _ (l : Lists) (room : ℕ) (passed : planChecks l room ≡ Passed) (N : �
       let z = exactWay l N f exact in
       back f (bandStart z) (width z) (omega arith) (band-starts z (proper f) (omega arith) .passes)
 
+  -- and where nothing was rounded it is one
+  pub whole : N * m l ≡ 0 → (f : ℕ → ℕ) → 1 ≤ width (exactWay l N f exact) → (y : ℕ) × Passes (countedWay l N f rounded) y (width (exactWay l N f exact))
+  whole nothing f some =
+      let w = width (exactWay l N f exact) in
+      let all : w - N * m l ≡ w = omega arith in
+      let (y, p) = leaves f (omega arith) in
+      (y, subst (Passes (countedWay l N f rounded) y) all p)
+
   -- so where no stretch at rounded times exceeds `top`, no exact band exceeds it by more than N times m
-  pub no-wider : (f : ℕ → ℕ) (top : ℕ) → ((x k : ℕ) → Passes (countedWay l N f rounded) x k → k ≤ top) → width (exactWay l N f exact) ≤ top + N * m l
+  no-wider : (f : ℕ → ℕ) (top : ℕ) → ((x k : ℕ) → Passes (countedWay l N f rounded) x k → k ≤ top) → width (exactWay l N f exact) ≤ top + N * m l
   no-wider f top most = go (decLe (width (exactWay l N f exact)) (N * m l))
     where
       go : Dec (width (exactWay l N f exact) ≤ N * m l) → width (exactWay l N f exact) ≤ top + N * m l
@@ -93,23 +102,21 @@ module _ (l : Lists) (room : ℕ) (passed : planChecks l room ≡ Passed) (N : �
           omega (arith, most y (width (exactWay l N f exact) - N * m l) p)
 
   -- offsets that agree at every signal have bands of one width
-  pub alike : (f g : ℕ → ℕ) → ((j : ℕ) → j < signals l → f j ≡ g j) → width (exactWay l N f exact) ≤ width (exactWay l N g exact)
-  alike f g same = go (decLe 1 (width (exactWay l N f exact)))
-    where
-      go : Dec (1 ≤ width (exactWay l N f exact)) → width (exactWay l N f exact) ≤ width (exactWay l N g exact)
-      go (yes some) =
-          let w = exactWay l N f exact in
-          let x = bandStart w in
-          let p = from-exact f exact x (width w) (band-starts w (proper f) some .passes) in
-          width-ge (exactWay l N g exact) (proper g) x (width w) some (width-le w) (to-exact f g exact same x (width w) p)
-      go (no none) = omega arith
+  alike : (f g : ℕ → ℕ) → ((j : ℕ) → j < signals l → f j ≡ g j) → width (exactWay l N f exact) ≤ width (exactWay l N g exact)
+  alike f g same =
+      let w = exactWay l N f exact in
+      let x = bandStart w in
+      where-some (width w) (width (exactWay l N g exact))
+      (λ some.
+      let p = from-exact f exact x (width w) (band-starts w (proper f) some .passes) in
+      width-ge (exactWay l N g exact) (proper g) x (width w) some (width-le w) (to-exact f g exact same x (width w) p))
 
   module _ (f g : ℕ → ℕ) (same : (j : ℕ) → j < signals l → g j ≡ f j) where
     agree : (j : ℕ) → j < signals l → N * f j ≡ N * g j
     agree j h = ap (λ (z : ℕ). N * z) (sym (same j h))
 
     -- a stretch of v halves at rounded times is N times m wider than the exact band at most
-    pub short : (x v : ℕ) → Passes (along (outboundWay (timed l) f) coarse) x v → N * v ≤ width (exactWay l N (λ j. N * g j) exact) + N * m l
+    short : (x v : ℕ) → Passes (along (outboundWay (timed l) f) coarse) x v → N * v ≤ width (exactWay l N (λ j. N * g j) exact) + N * m l
     short x v p = go (decLe (N * v) (N * m l))
       where
         go : Dec (N * v ≤ N * m l) → N * v ≤ width (exactWay l N (λ j. N * g j) exact) + N * m l
@@ -122,27 +129,46 @@ module _ (l : Lists) (room : ℕ) (passed : planChecks l room ≡ Passed) (N : �
             let r = forth (λ j. N * f j) (λ j. N * g j) agree (N * x) (N * v) (omega arith) q in
             omega (arith, width-ge w (proper (λ j. N * g j)) (N * x + d .window .moved) (N * v - N * m l) (omega arith) (omega (arith, mul-le-mul-left N most)) r)
 
-    -- counted at c, where the stretch is at the instant `start`, all but N times m at each end is clear
-    pub inside : (c start v x : ℕ) → c < signals l → Turns (halves (timed l)) (x + coarse c) start → (1 ≤ v → Passes (along (outboundWay (timed l) f) coarse) x v) → InsideClear (exactWay l N (λ j. N * g j) exact) N c start v (m l)
-    inside c start v x here at-c passes y late early =
+    around : 0 < 2 * l .cycle
+    around = omega (arith, fit l room passed .turns)
+
+    -- and so is a named band
+    pub named-short : (c instant a v : ℕ) → Named (along (outboundWay (timed l) f) coarse) c instant a v → N * v ≤ width (exactWay l N (λ j. N * g j) exact) + N * m l
+    named-short c instant a v named = go (decLe 1 v)
+      where
+        go : Dec (1 ≤ v) → N * v ≤ width (exactWay l N (λ j. N * g j) exact) + N * m l
+        go (yes some) =
+            let (x, less, at-c) = meets (along (outboundWay (timed l) f) coarse) c instant a around in
+            short x v (named .passes x at-c some)
+        go (no none) = let e : v ≡ 0 = omega arith in omega (arith, ap (λ (z : ℕ). N * z) e)
+
+    -- where nothing was rounded, a named band that no stretch in the fine unit exceeds is exact
+    pub named-exact : N * m l ≡ 0 → (c instant a v : ℕ) → Named (along (outboundWay (timed l) f) coarse) c instant a v → ((x k : ℕ) → Passes (countedWay l N (λ j. N * f j) rounded) x k → k ≤ N * v) → width (exactWay l N (λ j. N * g j) exact) ≡ N * v
+    named-exact nothing c instant a v named most =
+        omega (arith, nothing, named-short c instant a v named, alike (λ j. N * g j) (λ j. N * f j) (λ j h. sym (agree j h)), no-wider (λ j. N * f j) (N * v) most)
+
+    -- counted at c, where it comes by at the instant `start`, all of it but N times m at each end is clear
+    pub named-inside : (c start instant a v : ℕ) → c < signals l → Turns (halves (timed l)) (start + a) instant → Named (along (outboundWay (timed l) f) coarse) c instant a v → InsideClear (exactWay l N (λ j. N * g j) exact) N c start v (m l)
+    named-inside c start instant a v here begins named y late early =
+        let (x, less, at-c) = meets (along (outboundWay (timed l) f) coarse) c instant a around in
         let z = exactWay l N (λ j. N * g j) exact in
         let counted = countedWay l N (λ j. N * f j) rounded in
         let w = d .window in
         let Nm : ℕ = N * m l in
         let k : ℕ = after z N c start y in
-        let a : ℕ = w .moved + Nm - w .δ c in
+        let late-by : ℕ = w .moved + Nm - w .δ c in
         let there = w .each c (omega arith) in
         let small = w .within c (omega arith) in
         let room : 2 * Nm + 1 ≤ N * v = omega arith in
-        let q = finer-passes N (along (outboundWay (timed l) f) coarse) counted x v (d .finer f) (passes (some v room)) in
-        let r = lags-passes counted exact (λ j. w .δ j + Nm - w .δ c) a (2 * Nm) (λ j h. omega (arith, w .each j (omega arith))) (λ j h. omega (arith, w .within j (omega arith))) (N * x) (N * v) (omega arith) q in
-        let e = to-exact (λ j. N * f j) (λ j. N * g j) exact agree (N * x + a) (N * v - 2 * Nm) r in
+        let q = finer-passes N (along (outboundWay (timed l) f) coarse) counted x v (d .finer f) (named .passes x at-c (some v room)) in
+        let r = lags-passes counted exact (λ j. w .δ j + Nm - w .δ c) late-by (2 * Nm) (λ j h. omega (arith, w .each j (omega arith))) (λ j h. omega (arith, w .within j (omega arith))) (N * x) (N * v) (omega arith) q in
+        let e = to-exact (λ j. N * f j) (λ j. N * g j) exact agree (N * x + late-by) (N * v - 2 * Nm) r in
         let turn = man-turns (z .around) (y + exact c) (N * start) (proper (λ j. N * g j) .turns) in
-        turned z (proper (λ j. N * g j)) y (N * x + a) (k - Nm) (N * v - 2 * Nm) (omega arith)
+        turned z (proper (λ j. N * g j)) y (N * x + late-by) (k - Nm) (N * v - 2 * Nm) (omega arith)
         (record {
-          p = turn .q + at-c .q;
-          q = turn .p + at-c .p;
-          eq = omega (arith, turn .eq, ap (λ (t : ℕ). N * t) (at-c .eq), d .finer f .lag c here);
+          p = turn .q + at-c .q + begins .p;
+          q = turn .p + at-c .p + begins .q;
+          eq = omega (arith, turn .eq, ap (λ (t : ℕ). N * t) (at-c .eq), ap (λ (t : ℕ). N * t) (begins .eq), d .finer f .lag c here);
         })
         e
       where

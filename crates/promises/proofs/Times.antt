@@ -1,14 +1,12 @@
 -- The signed times between two signals are the sums of the link times between them, with document 01's signs. Assumes nothing.
 use Prim.Native.Nat.{ℕ, zero, suc, _+_, _-_}
-use mathlib.Core.Path.{_≡_, refl, sym, ap, ap₂, _∙_}
+use mathlib.Core.Path.{_≡_, sym, ap, _∙_}
 use native.Mathlib.Omega.{arith}
-use native.Mathlib.Numerals.{add-one}
-use lib.IntN.{ℤ, pos, negℤ, subℕ, _-ℤ_}
+use lib.IntN.{pos, negℤ, _-ℤ_}
 use Rattle.circle.specs.Over.{sumBelow}
 use Rattle.circle.proofs.Over.{sum-more}
 use Rattle.circle.proofs.Signed.{pos-minus, pos-sub, sub-eq, neg-sub}
-use Rattle.street.specs.Lists.{Lists}
-use Rattle.street.specs.Times.{timed, linkTicks}
+use Rattle.street.specs.Times.{linkTicks}
 use Rattle.promises.specs.Rounded.{SignedTimes}
 
 -- a sum splits at any index

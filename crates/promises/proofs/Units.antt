@@ -1,6 +1,6 @@
 -- A unit that is fine for a street: the product of all its speeds to the half. Each speed divides it, so each divides 20dN; and no speed of a street that passes the checks is 0,
 -- so neither is the product. In a fine unit each link's quotient leaves no remainder. Assumes nothing.
-use Prim.Native.Nat.{ℕ, zero, suc, _+_, _-_, _*_, _%_, _<_}
+use Prim.Native.Nat.{ℕ, zero, suc, _-_, _*_, _%_, _<_}
 use mathlib.Core.Path.{_≡_, ap, _∙_}
 use mathlib.Core.Logic.{⊎-elim}
 use native.Mathlib.Omega.{arith}

@@ -1,50 +1,41 @@
 -- From the working form of stretches to measured widths: a width that some stretch has and none exceeds is the measured one, and a departure less than that width behind a stretch's
--- start meets no red. Assumes nothing.
-use Prim.Native.Nat.{ℕ, suc, _+_, _-_, _*_, _≤_, _<_}
-use mathlib.Core.Path.{_≡_, refl, sym, ap, _∙_, subst}
+-- start meets no red. Each is said of any lags through a street, so of both directions. Assumes nothing.
+use Prim.Native.Nat.{ℕ, _+_, _-_, _≤_, _<_}
+use mathlib.Core.Path.{_≡_, sym, ap, _∙_, subst}
 use mathlib.Core.Bool.{true}
 use native.Mathlib.Omega.{arith}
-use native.Mathlib.Decide.{decLe}
+use native.Mathlib.Nat.{le-antisymm}
 use lib.IntN.{pos, _-ℤ_}
-use Rattle.circle.specs.Man.{man}
 use Rattle.circle.specs.Method.{Timed, halves}
-use Rattle.circle.specs.Bands.{Way, clear, stretch, width, outboundWay, inboundWay}
+use Rattle.circle.specs.Bands.{Way, clear, stretch, width, outboundWay}
 use Rattle.circle.proofs.Man.{Turns, man-lt, man-turns}
-use Rattle.circle.proofs.Arcs.{since, Passes}
+use Rattle.circle.proofs.Arcs.{Passes, where-some}
 use Rattle.circle.proofs.Raised.{Fit}
-use Rattle.circle.proofs.Since.{Stops}
+use Rattle.circle.proofs.Since.{along, Stops}
+use Rattle.circle.proofs.Named.{Named, meets}
 use Rattle.circle.proofs.Tests.{all-each}
 use Rattle.circle.proofs.Stretches.{Proper, passes-stretch, since-turns, width-ge, band-starts}
 use Rattle.circle.proofs.Perturbation.{part}
+use Rattle.promises.specs.Rounded.{behind}
 
-pub proper-outbound : (s : Timed) (f : ℕ → ℕ) → Fit s → Proper (outboundWay s f)
-proper-outbound s f fit =
-    record { turns = omega (arith, fit .turns); fits = λ j l. omega (arith, fit .goes j l) }
-
-pub proper-inbound : (s : Timed) (f : ℕ → ℕ) → Fit s → Proper (inboundWay s f)
-proper-inbound s f fit =
+-- both ways through a street, under any lags
+pub proper-way : {lag : ℕ → ℕ} (s : Timed) (f : ℕ → ℕ) → Fit s → Proper (along (outboundWay s f) lag)
+proper-way s f fit =
     record { turns = omega (arith, fit .turns); fits = λ j l. omega (arith, fit .goes j l) }
 
 module _ (w : Way) (proper : Proper w) where
   -- no stretch longer than v, no band wider
   pub width-most : (v : ℕ) → ((x k : ℕ) → Passes w x k → k ≤ v) → width w ≤ v
-  width-most v most = go (decLe 1 (width w))
-    where
-      go : Dec (1 ≤ width w) → width w ≤ v
-      go (yes h) = most _ (width w) (band-starts w proper h .passes)
-      go (no n) = omega arith
+  width-most v most = where-some (width w) v (λ some. most _ (width w) (band-starts w proper some .passes))
 
   -- a band that is open is a stretch
   pub width-passes : 1 ≤ width w → (x : ℕ) × Passes w x (width w)
-  width-passes h = (_, band-starts w proper h .passes)
+  width-passes some = (_, band-starts w proper some .passes)
 
   -- a stretch is no longer than the band, where some signal has a red
   pub width-least : (i : ℕ) → i < w .signals → 0 < w .length i → (x k : ℕ) → Passes w x k → k ≤ width w
-  width-least i l red x k ok = go (decLe 1 k)
-    where
-      go : Dec (1 ≤ k) → k ≤ width w
-      go (yes h) = width-ge w proper x k h (omega (arith, ok .each i l red)) ok
-      go (no n) = omega arith
+  width-least i l red x k ok =
+      where-some k (width w) (λ some. width-ge w proper x k some (omega (arith, ok .each i l red)) ok)
 
   -- every departure within a stretch meets no red
   pub inside-clear : (x₀ k v x : ℕ) → Passes w x₀ v → k < v → Turns (w .around) x (x₀ + k) → clear w x ≡ true
@@ -56,3 +47,38 @@ module _ (w : Way) (proper : Proper w) where
       record { each = λ j lj red. omega (arith, there .each j lj red, since-turns w proper x (x₀ + k) j turns) } in
       let zero-more : x + 0 ≡ x = omega arith in
       ap (clear w) (sym zero-more) ∙ all-each 1 (λ i. clear w (x + i)) (passes-stretch w x 1 here) 0 (omega arith)
+
+  -- and so every departure in a named band: less than v behind the instant that names it, once a later
+  pub inside : (c instant a v x : ℕ) → Named w c instant a v → behind w c instant (x + a) < v → clear w x ≡ true
+  inside c instant a v x named l =
+      let k = behind w c instant (x + a) in
+      let below = man-lt (w .around) (pos (x + a + w .lag c) -ℤ pos instant) (proper .turns) in
+      let turns = man-turns (w .around) (x + a + w .lag c) instant (proper .turns) in
+      inside-clear (x + (w .around - k)) k v x
+      (named .passes (x + (w .around - k)) (record { p = turns .q; q = turns .p + 1; eq = omega (arith, turns .eq) }) (omega arith))
+      l
+      (record { p = 1; q = 0; eq = omega arith })
+
+module _ (s : Timed) (ok : Fit s) (red : Stops s) (f : ℕ → ℕ) {lag : ℕ → ℕ} where
+  -- no stretch through a street is longer than the band, and no named band wider
+  pub stretch-least : (x k : ℕ) → Passes (along (outboundWay s f) lag) x k → k ≤ width (along (outboundWay s f) lag)
+  stretch-least =
+      width-least (along (outboundWay s f) lag) (proper-way s f ok) 0 (ok .some) (omega (arith, red 0 (ok .some)))
+
+  pub named-least : (c instant a v : ℕ) → Named (along (outboundWay s f) lag) c instant a v → v ≤ width (along (outboundWay s f) lag)
+  named-least c instant a v named =
+      where-some v (width (along (outboundWay s f) lag))
+      (λ some.
+      let (x, l, at-c) = meets (along (outboundWay s f) lag) c instant a (omega (arith, ok .turns)) in
+      stretch-least x v (named .passes x at-c some))
+
+  -- a named band that no stretch exceeds is the measured one
+  pub named-width : (c instant a v : ℕ) → Named (along (outboundWay s f) lag) c instant a v → ((x k : ℕ) → Passes (along (outboundWay s f) lag) x k → k ≤ v) → width (along (outboundWay s f) lag) ≡ v
+  named-width c instant a v named most =
+      le-antisymm (width-most (along (outboundWay s f) lag) (proper-way s f ok) v most) (named-least c instant a v named)
+
+  -- lags that have a like for each stretch have a band as wide
+  pub as-wide : {lag′ : ℕ → ℕ} → ((x k : ℕ) → Passes (along (outboundWay s f) lag′) x k → (y : ℕ) × (y < halves s) × Passes (along (outboundWay s f) lag) y k) → width (along (outboundWay s f) lag′) ≤ width (along (outboundWay s f) lag)
+  as-wide {lag′} like =
+      width-most (along (outboundWay s f) lag′) (proper-way s f ok) (width (along (outboundWay s f) lag))
+      (λ x k p. let (y, l, q) = like x k p in stretch-least y k q)

@@ -1,15 +1,15 @@
 -- What is promised of a plan with a requested width, and of one from two platoons, at rounded times (01, 'Moving width'). `Shift` says how far a plan moves the equal plan: not at
 -- all, or so that one direction has a width.
-use Prim.Native.Nat.{ℕ, _+_, _*_, _≤_, _<_}
+use Prim.Native.Nat.{ℕ, _*_, _≤_, _<_}
 use mathlib.Core.Path.{_≡_}
 use mathlib.Core.Bool.{true}
-use Rattle.circle.specs.Method.{Timed, inUnits, reference, redEnd, redStart}
-use Rattle.circle.specs.Bands.{clear, width, outboundWay, inboundWay}
+use Rattle.circle.specs.Method.{Timed, inUnits}
+use Rattle.circle.specs.Bands.{width, outboundWay, inboundWay}
 use Rattle.circle.specs.Moved.{inRange, otherWidth}
 use Rattle.plans.specs.Moved.{platoonShift, movedOffset, outboundWidth, inboundWidth}
 use Rattle.plans.specs.declared.widths.Shift.{Shift}
 use Rattle.plans.specs.declared.widths.Shift.the-variants.{Unmoved, Outbound, Inbound}
-use Rattle.promises.specs.Rounded.{InsideFrom, InsideTo}
+use Rattle.promises.specs.Rounded.{BandsClear}
 
 -- a shift to a width in range; the equal plan asks for none
 abbrev pub InRange : Timed → Shift → Type 0
@@ -21,12 +21,10 @@ InRange s (Inbound w) = inRange s w ≡ true
 abbrev pub PlatoonsInRange : Timed → Type 0
 PlatoonsInRange s = (P Q : ℕ) → InRange s (platoonShift s P Q)
 
--- every departure inside a named band meets no red: the outbound one starts at c as c's red ends, the inbound one ends at c as c's red starts, each as wide as reported
+-- every departure inside a named band meets no red, each band as wide as reported
 abbrev pub MovedClear : Timed → Type 0
 MovedClear s =
-    (shift : Shift) → InRange s shift →
-    ((x : ℕ) → InsideFrom (outboundWay s (movedOffset shift s)) (reference s) (redEnd s (reference s) (movedOffset shift s (reference s))) (outboundWidth shift s) x → clear (outboundWay s (movedOffset shift s)) x ≡ true)
-    × ((y : ℕ) → InsideTo (inboundWay s (movedOffset shift s)) (reference s) (redStart s (reference s) (movedOffset shift s (reference s))) (inboundWidth shift s) y → clear (inboundWay s (movedOffset shift s)) y ≡ true)
+    (shift : Shift) → InRange s shift → BandsClear s (movedOffset shift s) (outboundWidth shift s) (inboundWidth shift s)
 
 -- where both reported widths are above 0 they are the measured ones
 abbrev pub MovedMeasured : Timed → Type 0

@@ -6,11 +6,10 @@ use mathlib.Core.Bool.{true}
 use mathlib.Core.List.{List}
 use mathlib.Core.Logic.{_⊎_}
 use lib.IntN.{pos, negℤ, _+ℤ_, _-ℤ_}
-use lib.ListN.{getD}
 use Rattle.circle.specs.Signed.{leℤ}
 use Rattle.circle.specs.Over.{sumBelow, listBelow}
 use Rattle.circle.specs.Man.{man}
-use Rattle.circle.specs.Method.{Timed, halves, inUnits, t, t′, B, reference, offset, equalWidth, redEnd, redStart}
+use Rattle.circle.specs.Method.{Timed, halves, inUnits, t, t′, B, reference, equalWidth, redEnd, redStart}
 use Rattle.circle.specs.Bands.{Way, clear, width, outboundWay, inboundWay}
 use Rattle.street.specs.Lists.{Lists, signals}
 use Rattle.street.specs.Checks.{planChecks}
@@ -56,12 +55,16 @@ InsideFrom w c starts wide x = behind w c starts x < wide
 abbrev pub InsideTo : Way → ℕ → ℕ → ℕ → ℕ → Type 0
 InsideTo w c ends wide y = behind w c ends (y + wide) < wide
 
--- every departure inside a named band of the equal plan meets no red: the outbound one starts at c as c's red ends, the inbound one ends at c as c's red starts, each is as wide as
--- reported
+-- every departure inside the two named bands of a plan with offsets f meets no red: the outbound one starts at c as c's red ends and is v wide, the inbound one ends at c as c's red
+-- starts and is v′ wide
+abbrev pub BandsClear : Timed → (ℕ → ℕ) → ℕ → ℕ → Type 0
+BandsClear s f v v′ =
+    ((x : ℕ) → InsideFrom (outboundWay s f) (reference s) (redEnd s (reference s) (f (reference s))) v x → clear (outboundWay s f) x ≡ true)
+    × ((y : ℕ) → InsideTo (inboundWay s f) (reference s) (redStart s (reference s) (f (reference s))) v′ y → clear (inboundWay s f) y ≡ true)
+
+-- so in the equal plan, each as wide as reported
 abbrev pub NamedClear : Timed → Type 0
-NamedClear s =
-    ((x : ℕ) → InsideFrom (outboundWay s (equalOffset s)) (reference s) (redEnd s (reference s) (equalOffset s (reference s))) (equalWidth s) x → clear (outboundWay s (equalOffset s)) x ≡ true)
-    × ((y : ℕ) → InsideTo (inboundWay s (equalOffset s)) (reference s) (redStart s (reference s) (equalOffset s (reference s))) (equalWidth s) y → clear (inboundWay s (equalOffset s)) y ≡ true)
+NamedClear s = BandsClear s (equalOffset s) (equalWidth s) (equalWidth s)
 
 -- the times of the method are document 01's: between signals i and i + k outbound the sum of the link times between them, backwards its negative; and inbound the other way round
 abbrev pub SignedTimes : Type 0

@@ -1,18 +1,18 @@
 -- What is known of a street's numbers once every check of a plan has passed, in the words of plain numbers. Each check that passed tested true, or searched for
 -- a fault and found none. Assumes nothing.
-use Prim.Native.Nat.{ℕ, suc, _+_, _-_, _*_, _≤_, _<_}
-use mathlib.Core.Path.{_≡_, refl, sym, ap, ap₂, _∙_}
+use Prim.Native.Nat.{ℕ, _+_, _-_, _≤_, _<_}
+use mathlib.Core.Path.{_≡_, refl, sym, ap₂, _∙_}
 use mathlib.Core.Bool.{Bool, true, false, cond, not}
-use mathlib.Core.List.{List, [], _∷_}
+use mathlib.Core.List.{List}
 use native.Mathlib.Omega.{arith}
 use lib.ListN.{length, getD}
 use lib.Dec.{leb, ltb}
 use borrow.Author.Tests.{ltb-false, leb-false, lt-ltb, leb-true, le-leb, not-false}
 use Rattle.circle.specs.Over.{Found, nowhere, at, firstBelow}
 use Rattle.circle.proofs.Over.{first-none}
-use Rattle.street.specs.Limits.{minSignals, maxSignals, minCycle, maxCycle, minRed, maxDistance, minSpeed, maxSpeed}
+use Rattle.street.specs.Limits.{maxSignals, minCycle, maxCycle, minRed, maxDistance, minSpeed, maxSpeed}
 use Rattle.street.specs.Lists.{Lists, signals}
-use Rattle.street.specs.Checks.{within, unless, faultAt, orNext, firstFault, _or_, badRed, badDistance, badSpeed, countCheck, roomCheck, cycleCheck, redCheck, distanceCheck, speedCheck, planChecks}
+use Rattle.street.specs.Checks.{within, faultAt, orNext, _or_, badRed, badDistance, badSpeed, countCheck, roomCheck, cycleCheck, redCheck, distanceCheck, speedCheck, planChecks}
 use Rattle.street.specs.Times.{Driveable}
 use Rattle.street.specs.declared.Code.{Code}
 use Rattle.street.specs.declared.Code.the-variants.{Room, Red, Distance, Speed}

@@ -1,8 +1,8 @@
 -- A street whose checks passed is sound: what the search builds on, read off its padded arrays, and it is the method's street of the typed lists at every signal.
 -- A direction's time to a signal is at most 200,001 ticks for each link before it. Assumes nothing.
-use Prim.Native.Nat.{ℕ, zero, suc, _+_, _-_, _*_, _≤_, _<_}
+use Prim.Native.Nat.{ℕ, zero, suc, _-_, _*_, _≤_, _<_}
 use mathlib.Core.Path.{_≡_, refl, sym, ap, _∙_, subst}
-use mathlib.Core.Bool.{Bool, true, false, cond}
+use mathlib.Core.Bool.{Bool}
 use mathlib.Core.List.{List}
 use native.Mathlib.Omega.{arith}
 use lib.ListN.{length, drop, getD, replicate}
@@ -12,14 +12,14 @@ use Rattle.circle.proofs.Method.{Agree}
 use Rattle.street.specs.Limits.{maxSignals}
 use Rattle.street.specs.Lists.{Lists, signals}
 use Rattle.street.specs.Checks.{planChecks}
-use Rattle.street.specs.Times.{timeTo, linkTicks, roundedLink, m, timed, Driveable}
+use Rattle.street.specs.Times.{timeTo, roundedLink, timed, Driveable}
 use Rattle.street.specs.Streets.{padded, streetOf, surveyed, surveyedAs, timedStreet, Sound}
 use Rattle.street.specs.declared.Street.{Street}
 use Rattle.street.specs.declared.Surveyed.{Surveyed}
 use Rattle.street.specs.declared.Verdict.{Verdict}
 use Rattle.street.specs.declared.Verdict.the-variants.{Passed, Refused}
 use Rattle.street.proofs.TimeLaws.{time-small, mark-small}
-use Rattle.street.proofs.Passed.{Clear, clear}
+use Rattle.street.proofs.Passed.{clear}
 
 pub time-far : (ds vs : List ℕ) → Driveable ds vs → (j : ℕ) → j ≤ length vs → timeTo ds vs j ≤ 200001 * j
 unfolding sumBelow

@@ -1,16 +1,15 @@
 -- Laws of travel times: a link's time is small, one more link adds its time to a sum or its mark to a count, and lists that pass the checks are driveable.
 -- Assumes nothing.
-use Prim.Native.Nat.{ℕ, zero, suc, _+_, _-_, _*_, _/_, _≤_, _<_}
-use mathlib.Core.Path.{_≡_, refl, sym, ap, ap₂, _∙_}
+use Prim.Native.Nat.{ℕ, _+_, _-_, _*_, _/_, _≤_, _<_}
+use mathlib.Core.Path.{_≡_, sym, ap, ap₂, _∙_}
 use mathlib.Core.Bool.{Bool, true, false, cond, not}
 use mathlib.Core.List.{List}
 use native.Mathlib.Omega.{arith}
 use native.Mathlib.Nat.{div-lt-iff-lt-mul}
 use lib.ListN.{length, getD}
-use lib.Dec.{leb, ltb}
 use Rattle.circle.specs.Over.{countBelow}
 use Rattle.circle.proofs.Over.{sum-more}
-use Rattle.street.specs.Limits.{maxDistance, minSpeed, maxSpeed}
+use Rattle.street.specs.Limits.{maxDistance, minSpeed}
 use Rattle.street.specs.Checks.{_or_}
 use Rattle.street.specs.Times.{ticks, whole, linkLength, linkTicks, timeTo, roundedLink, Driveable}
 

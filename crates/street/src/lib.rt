@@ -4,8 +4,6 @@ mod checks;
 mod times;
 
 ghost use mathlib.Core.Path.{_≡_};
-ghost use Prim.Native.Nat.{_≤_};
-ghost use lib.ListN.{length};
 ghost use Rattle.street.specs.Limits.{minSignals, maxSignals, minCycle, maxCycle, minRed, maxDistance, minSpeed, maxSpeed, maxPlatoon};
 ghost use Rattle.street.specs.Lists.{typed};
 ghost use Rattle.street.specs.Checks.{planChecks};

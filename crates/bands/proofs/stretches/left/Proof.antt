@@ -10,11 +10,11 @@ use Rattle.bands.proofs.stretches.left.Tie as tie
 mul-gone : tie.Need-mul-gone
 mul-gone c = search needs
 
-since-requires : tie.Need-since-requires
-since-requires c κs = search needs
+back-requires : tie.Need-back-requires
+back-requires c κs = search needs
 
 add-gone : tie.Need-add-gone
-add-gone c = omega (arith, c .since .ensures, man-lt (c .before .args .h) (pos (c .before .args .x) -ℤ pos (c .before .args .end)) (omega arith))
+add-gone c = omega (arith, c .back .ensures, man-lt (c .before .args .h) (pos (c .before .args .x) -ℤ pos (c .before .args .end)) (omega arith))
 
 returns : tie.Need-returns
 returns c = search needs
@@ -23,4 +23,4 @@ returns-2 : tie.Need-returns-2
 returns-2 c = search needs
 
 pub left-spec : {M : Type 1} → statement M
-left-spec = tie.close (tie.spec mul-gone since-requires add-gone returns returns-2)
+left-spec = tie.close (tie.spec mul-gone back-requires add-gone returns returns-2)

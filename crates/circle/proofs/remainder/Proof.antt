@@ -1,10 +1,10 @@
--- `plans::search::remainder` meets its contract: what is added to a reaches the next multiple of h past b. Assumes nothing.
+-- `circle::remainder` meets its contract: what is added to a reaches the next multiple of h past b. Assumes nothing.
 use native.Mathlib.Nat.{mod-lt}
 use native.Mathlib.Omega.{arith}
 use borrow.Author.Needs.{needs}
 use Rattle.circle.proofs.Rounds.{remainder-man}
-use Rattle.plans.proofs.search.remainder.Statement.{statement}
-use Rattle.plans.proofs.search.remainder.Tie as tie
+use Rattle.circle.proofs.remainder.Statement.{statement}
+use Rattle.circle.proofs.remainder.Tie as tie
 
 rem-result : tie.Need-rem-result
 rem-result c = search needs

@@ -1,8 +1,8 @@
--- `plans::search::back` meets its contract: on the cycle one comparison does for the division. Assumes nothing.
+-- `circle::back` meets its contract: on the circle one comparison does for the division. Assumes nothing.
 use borrow.Author.Needs.{needs}
 use Rattle.circle.proofs.Rounds.{since-within, since-round}
-use Rattle.plans.proofs.search.back.Statement.{statement}
-use Rattle.plans.proofs.search.back.Tie as tie
+use Rattle.circle.proofs.back.Statement.{statement}
+use Rattle.circle.proofs.back.Tie as tie
 
 returns : tie.Need-returns
 returns c = since-within _ _ _ (c .before .pre .1) (c .if1 .taken)

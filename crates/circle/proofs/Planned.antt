@@ -1,0 +1,59 @@
+-- The named bands of each plan. The equal plan lowers nothing and leaves room for B, since no signal leaves less beside its red. The lowerings of a request leave room for the
+-- width that was asked and for what is left of 2B, where something is. Assumes nothing.
+use Prim.Native.Nat.{ℕ, _≤_, _<_}
+use mathlib.Core.Path.{_≡_}
+use mathlib.Core.Bool.{true}
+use native.Mathlib.Omega.{arith}
+use Rattle.circle.specs.Method.{Timed, reference, offset, equalWidth}
+use Rattle.circle.specs.Moved.{inRange, outboundLowering, inboundLowering, lowered, otherWidth}
+use Rattle.circle.proofs.Raised.{Fit}
+use Rattle.circle.proofs.Since.{Rising}
+use Rattle.circle.proofs.Named.{Bands, Room, bands}
+use Rattle.circle.proofs.Moving.{Asked, asked, chosen-range, chosen-leaves, outbound-lowering, inbound-lowering, equal-width, other-width, lowered-turns, outbound-lowering-own, inbound-lowering-own}
+
+module _ (s : Timed) (fit : Fit s) (rising : Rising s) where
+  pub equal-bands : Bands s (offset s (reference s)) (equalWidth s) (equalWidth s)
+  equal-bands =
+      bands s fit rising (offset s (reference s)) (λ j. 0) (λ j. record { p = 0; q = 0; eq = omega arith }) (equalWidth s) (equalWidth s) room room
+    where
+      room : 1 ≤ equalWidth s → (j : ℕ) → j < s .signals → Room s (equalWidth s) j 0 0
+      room some j l =
+          let u = chosen-leaves s fit j l in
+          let m = chosen-range s fit j in
+          record { before = omega (arith, equal-width s fit); after = omega arith }
+
+  module _ (w : ℕ) (range : inRange s w ≡ true) where
+    ask : Asked s w
+    ask = asked s fit w range
+
+    pub outbound-bands : Bands s (lowered s (outboundLowering s w)) w (otherWidth s w)
+    outbound-bands =
+        bands s fit rising (lowered s (outboundLowering s w)) (outboundLowering s w) (lowered-turns s fit (outboundLowering s w)) w (otherWidth s w)
+        (λ some j l.
+        let u = chosen-leaves s fit j l in
+        let δ = outbound-lowering s fit w j in
+        let o = outbound-lowering-own s fit w ask in
+        record { before = omega (arith, ask .fits j l); after = omega arith })
+        (λ some j l.
+        let u = chosen-leaves s fit j l in
+        let δ = outbound-lowering s fit w j in
+        let o = outbound-lowering-own s fit w ask in
+        let v = other-width s fit w in
+        let m = chosen-range s fit j in
+        record { before = omega arith; after = omega arith })
+
+    pub inbound-bands : Bands s (lowered s (inboundLowering s w)) (otherWidth s w) w
+    inbound-bands =
+        bands s fit rising (lowered s (inboundLowering s w)) (inboundLowering s w) (lowered-turns s fit (inboundLowering s w)) (otherWidth s w) w
+        (λ some j l.
+        let u = chosen-leaves s fit j l in
+        let δ = inbound-lowering s fit w j in
+        let o = inbound-lowering-own s fit w ask in
+        let v = other-width s fit w in
+        let m = chosen-range s fit j in
+        record { before = omega (arith, ask .reaches); after = omega arith })
+        (λ some j l.
+        let δ = inbound-lowering s fit w j in
+        let o = inbound-lowering-own s fit w ask in
+        let m = chosen-range s fit j in
+        record { before = omega arith; after = omega (arith, ask .fits j l) })
