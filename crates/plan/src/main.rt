@@ -1,6 +1,17 @@
 // The program: a street sheet on standard input, its equal plan on standard output. Everything that matters stands in `printed`; here
 // the bytes only come in and go out. One byte more than a sheet may have is asked for, so that a sheet that is too long is seen to be.
 use street::Street;
+ghost use mathlib.Core.Path.{_≡_};
+ghost use Rattle.street.specs.Limits.{maxSignals};
+ghost use Rattle.printed.specs.Way.{equalText};
+
+// Writes the text that answers a sheet. What is written cannot be told by a contract, so that it is the answer is asked for here, at
+// the one place where the program writes.
+fn send(sheet: &[u8], text: &[u8])
+    requires { ⌜ now text ≡ equalText (now sheet) maxSignals ⌝ }
+{
+    io::write_all(1, text);
+}
 
 fn main() {
     let mut input = [0u8; 2049];
@@ -8,5 +19,5 @@ fn main() {
     let answer = printed::equal_text(&input[..got], Street::MAX_SIGNALS);
     let bytes = answer.bytes;
     let count = answer.count;
-    io::write_all(1, &bytes[..count]);
+    send(&input[..got], &bytes[..count]);
 }

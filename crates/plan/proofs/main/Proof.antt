@@ -1,6 +1,7 @@
--- `main` meets its contract: the printed text lies within its buffer. Assumes nothing beyond what the libraries assume of reading and writing.
+-- `main` meets its contract: the printed text lies within its buffer, and the bytes that go out are the text that answers the bytes that came in. Assumes nothing beyond what the
+-- libraries assume of reading and writing.
 use borrow.Author.Needs.{needs}
-use Rattle.printed.proofs.Ways.{text-within, text-count}
+use Rattle.printed.proofs.Ways.{text-within, text-count, text-is}
 use Rattle.plan.proofs.main.Statement.{statement}
 use Rattle.plan.proofs.main.Tie as tie
 
@@ -19,14 +20,20 @@ slice-aggregate-equal-text c = search needs
 equal-text-requires : tie.Need-equal-text-requires
 equal-text-requires c κs = search needs
 
+array-share-prefix-input-2 : tie.Need-array-share-prefix-input-2
+array-share-prefix-input-2 c = search needs
+
+slice-aggregate-send : tie.Need-slice-aggregate-send
+slice-aggregate-send c = search needs
+
 array-share-prefix-bytes : tie.Need-array-share-prefix-bytes
-array-share-prefix-bytes c = text-within (c .before .equal-text .ensures)
+array-share-prefix-bytes c = text-within (c .before .before .equal-text .ensures)
 
-slice-aggregate-write-all : tie.Need-slice-aggregate-write-all
-slice-aggregate-write-all c = text-count (c .before .before .equal-text .ensures)
+slice-aggregate-send-2 : tie.Need-slice-aggregate-send-2
+slice-aggregate-send-2 c = text-count (c .before .before .before .equal-text .ensures)
 
-write-all-requires : tie.Need-write-all-requires
-write-all-requires c κs = search needs
+send-requires : tie.Need-send-requires
+send-requires c κs = text-is (c .before .before .before .equal-text .ensures)
 
 returns : tie.Need-returns
 returns c = search needs
@@ -40,7 +47,9 @@ main-spec =
     array-share-prefix-input
     slice-aggregate-equal-text
     equal-text-requires
+    array-share-prefix-input-2
+    slice-aggregate-send
     array-share-prefix-bytes
-    slice-aggregate-write-all
-    write-all-requires
+    slice-aggregate-send-2
+    send-requires
     returns)
