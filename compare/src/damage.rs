@@ -106,21 +106,25 @@ fn digits(random: &mut Random, bytes: &[u8]) -> (usize, usize) {
     (at, bytes[at..].iter().take_while(|byte| byte.is_ascii_digit()).count())
 }
 
-/// Leading zeros, signs, too many digits, no digits, or the greatest number that the form allows.
+/// What is put before a number, or in its place: leading zeros, signs, too many digits, no digits, or the greatest number
+/// that the form allows.
+const NUMBERS: [(bool, &[u8]); 10] = [
+    (false, b"0"),
+    (false, b"00"),
+    (false, b"-"),
+    (false, b"+"),
+    (true, b"123456789"),
+    (true, b"4294967297"),
+    (true, b"100000000"),
+    (true, b""),
+    (true, b"00000000"),
+    (true, b"99999999"),
+];
+
 fn a_number(random: &mut Random, bytes: &mut Vec<u8>) {
     let (at, count) = digits(random, bytes);
-    match random.below(10) {
-        0 => replace(bytes, at, 0, b"0"),
-        1 => replace(bytes, at, 0, b"00"),
-        2 => replace(bytes, at, 0, b"-"),
-        3 => replace(bytes, at, 0, b"+"),
-        4 => replace(bytes, at, count, b"123456789"),
-        5 => replace(bytes, at, count, b"4294967297"),
-        6 => replace(bytes, at, count, b"100000000"),
-        7 => replace(bytes, at, count, b""),
-        8 => replace(bytes, at, count, b"00000000"),
-        _ => replace(bytes, at, count, b"99999999"),
-    }
+    let (instead, with) = random.pick(&NUMBERS);
+    replace(bytes, at, if instead { count } else { 0 }, with);
 }
 
 /// A space doubled, lost, at a line's start or end, or another kind of space.
