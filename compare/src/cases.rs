@@ -32,7 +32,7 @@ fn room(words: &[&str]) -> Option<usize> {
 }
 
 /// What a plan's request asks for, and the words after it.
-fn ask<'a>(words: &'a [&'a str]) -> Option<(Ask, &'a [&'a str])> {
+pub fn ask<'a>(words: &'a [&'a str]) -> Option<(Ask, &'a [&'a str])> {
     match words {
         ["equal", rest @ ..] => Some((Ask::Equal, rest)),
         ["outbound", width, rest @ ..] => Some((Ask::Outbound(number(width)?), rest)),

@@ -1,15 +1,16 @@
 //! The rules of `docs/RULES.md` a second time, and what holds the programs to them.
 //!
-//! The model (`street`, `equal`, `moved`, `bands`, `named`, `exact`, `sheet`, `printed`, `cases`) follows the rules'
-//! signed formulas as they stand, by brute force, and shares nothing with the proved crates. The rest makes sheets
-//! and requests (`random`, `streets`, `limits`, `damage`, `offsets`, `asks`), runs the programs on them (`run`) and
-//! compares (`trial`, `hold`, `coverage`, `asked`, `tally`); `page`, `paper`
-//! and `decimal` read the pages whose sheets and tables are run.
+//! The model (`street`, `equal`, `moved`, `bands`, `named`, `exact`, `sheet`, `printed`, `cases`, `client`) follows the
+//! rules' signed formulas as they stand, by brute force, and shares nothing with the proved crates. The rest makes
+//! sheets and requests (`random`, `streets`, `limits`, `damage`, `offsets`, `asks`), runs the programs on them (`run`)
+//! and compares (`trial`, `hold`, `coverage`, `asked`, `tally`); `page`, `paper` and `decimal` read the pages whose
+//! sheets and tables are run.
 
 pub mod asked;
 pub mod asks;
 pub mod bands;
 pub mod cases;
+pub mod client;
 pub mod coverage;
 pub mod damage;
 pub mod decimal;

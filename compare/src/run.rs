@@ -1,4 +1,5 @@
-//! Starting the proved programs. They are x86-64 programs; on another machine the kit's emulator runs them.
+//! Starting the proved programs and the C client. They are x86-64 programs; on another machine the kit's emulator runs
+//! them.
 
 use std::env;
 use std::ffi::OsString;
@@ -29,14 +30,15 @@ fn toolchain() -> Result<PathBuf, String> {
 }
 
 /// Whether the file is a program for x86-64: an ELF file with that machine's number.
-fn for_x86_64(file: &Path) -> Result<bool, String> {
-    let bytes = fs::read(file).map_err(|error| format!("{}: {error}; `rt ci` builds it", file.display()))?;
+fn for_x86_64(file: &Path, maker: &str) -> Result<bool, String> {
+    let bytes =
+        fs::read(file).map_err(|error| format!("{}: {error}; `{maker}` builds it", file.display()))?;
     Ok(bytes.starts_with(b"\x7fELF") && bytes.get(18..20) == Some(&[0x3e, 0]))
 }
 
-fn words(file: &Path) -> Result<Vec<OsString>, String> {
+fn words(file: &Path, maker: &str) -> Result<Vec<OsString>, String> {
     let mut words = vec![];
-    if for_x86_64(file)? && env::consts::ARCH != "x86_64" {
+    if for_x86_64(file, maker)? && env::consts::ARCH != "x86_64" {
         let tools = toolchain()?;
         let library = tools.join("lib");
         words.push(tools.join("bin/qemu-x86_64").into_os_string());
@@ -49,27 +51,38 @@ fn words(file: &Path) -> Result<Vec<OsString>, String> {
 }
 
 impl Program {
-    /// The program at the path that the environment names, or the one that `rt` left in target/bin/.
-    fn find(name: &str, variable: &str) -> Program {
-        let built = || repository().join("target/bin").join(name);
+    /// The program at the path that the environment names, or the one that its maker left in a folder of target/.
+    fn find(name: &str, variable: &str, folder: &str, maker: &str) -> Program {
+        let built = || repository().join("target").join(folder).join(name);
         let file = env::var_os(variable).map_or_else(built, PathBuf::from);
-        let words = words(&file).unwrap_or_else(|fault| panic!("cannot run {name}: {fault}"));
+        let words = words(&file, maker).unwrap_or_else(|fault| panic!("cannot run {name}: {fault}"));
         Program { name: name.to_string(), words }
     }
 
     pub fn plan() -> Program {
-        Program::find("plan", "COMPARE_PLAN")
+        Program::find("plan", "COMPARE_PLAN", "bin", "rt ci")
     }
 
     pub fn cases() -> Program {
-        Program::find("cases", "COMPARE_CASES")
+        Program::find("cases", "COMPARE_CASES", "bin", "rt ci")
+    }
+
+    /// The C client, which takes words; the others take none.
+    pub fn client() -> Program {
+        Program::find("client", "COMPARE_CLIENT", "client", "client/run")
     }
 
     /// What the program writes to its standard output for an input, provided that it ends well and says nothing else.
     pub fn answer(&self, input: &[u8]) -> Result<Vec<u8>, String> {
+        self.answer_to(&[], input)
+    }
+
+    /// The same for a program that is started with words.
+    pub fn answer_to(&self, words: &[&str], input: &[u8]) -> Result<Vec<u8>, String> {
         let fault = |error: std::io::Error| format!("{}: {error}", self.name);
         let mut child = Command::new(&self.words[0])
             .args(&self.words[1..])
+            .args(words)
             .stdin(Stdio::piped())
             .stdout(Stdio::piped())
             .stderr(Stdio::piped())

@@ -1,0 +1,101 @@
+//! The C client as a model: what `client/client.c` prints for its words and the bytes of its sheet.
+
+use crate::bands::{measured, Band};
+use crate::cases::ask;
+use crate::equal::Plan;
+use crate::moved::{plan, Ask};
+use crate::named::named;
+use crate::printed::plan_prints;
+use crate::sheet::read;
+use crate::street::{Refusal, Street};
+
+/// What the client fills its lent list with; no offset is as large.
+const PATTERN: i64 = 77_777;
+
+/// All that the client prints, given the words after the name of its sheet.
+pub fn prints(words: &[&str], sheet: &[u8]) -> String {
+    match (words, read(sheet)) {
+        (["print"], _) => plan_prints(sheet),
+        (["numbers"], reply) | (_, reply @ Err(_)) => numbers(&reply),
+        (["unequal"], Ok(street)) => unequal(&street),
+        (["room", room], Ok(street)) => {
+            planned(&street, Ask::Equal, room.parse().expect("a count of entries"))
+        }
+        ([], Ok(street)) => planned(&street, Ask::Equal, street.signals() + 1),
+        (words, Ok(street)) => match ask(words) {
+            Some((ask, [])) => planned(&street, ask, street.signals() + 1),
+            _ => panic!("the client has no words {words:?}"),
+        },
+    }
+}
+
+/// All that it prints for empty lists.
+pub fn empty() -> String {
+    let none = Street { cycle: 600, reds: vec![], distances: vec![], outbound: vec![], inbound: vec![] };
+    let asks = [Ask::Equal, Ask::Outbound(80), Ask::Inbound(80), Ask::Platoons(30, 10)];
+    let plans: String = asks.map(|ask| plan_line(&none, &plan(&none, ask, 0))).concat();
+    numbers(&read(b"")) + &plan_prints(b"") + &plans + &measure_line(&none, &[])
+}
+
+fn list(name: &str, entries: &[i64]) -> String {
+    entries.iter().fold(name.to_string(), |line, entry| format!("{line} {entry}")) + "\n"
+}
+
+fn head<T>(name: &str, reply: &Result<T, Refusal>) -> String {
+    let (code, place) = reply.as_ref().err().map_or((0, 0), |refusal| (refusal.code, refusal.place));
+    format!("{name} code {code} place {place}")
+}
+
+fn numbers(reply: &Result<Street, Refusal>) -> String {
+    let none = Street { cycle: 0, reds: vec![], distances: vec![], outbound: vec![], inbound: vec![] };
+    let street = reply.as_ref().unwrap_or(&none);
+    let mut text = head("sheet", reply);
+    text += &format!(" signals {} cycle {} numbers beyond 0\n", street.signals(), street.cycle);
+    text += &list("reds", &street.reds);
+    text += &list("distances", &street.distances);
+    text += &list("outbound", &street.outbound);
+    text + &list("inbound", &street.inbound)
+}
+
+/// A plan's reply. At the reference the outbound band starts as the red ends, and the inbound one ends as it starts.
+fn plan_line(street: &Street, reply: &Result<Plan, Refusal>) -> String {
+    let told = |plan: &Plan| {
+        let [out, back] = named(street, plan).map(|band| (band.start, band.start + band.width));
+        let [starts, ends] = [out.0, back.1].map(|instant| instant.rem_euclid(street.halves()));
+        [plan.reference, plan.best, plan.outbound, plan.inbound, plan.not_whole, starts, ends]
+    };
+    let [reference, b, outbound, inbound, rounded, starts, ends] = reply.as_ref().map_or([0; 7], told);
+    let line = head("plan", reply) + &format!(" reference {reference} b {b} outbound {outbound}");
+    line + &format!(" inbound {inbound} rounded {rounded} starts {starts} ends {ends}\n")
+}
+
+fn measure_line(street: &Street, offsets: &[i64]) -> String {
+    let reply = measured(street, offsets);
+    let nothing = Band { width: 0, start: 0 };
+    let (out, back) = reply.unwrap_or((nothing, nothing));
+    let line = head("measure", &reply) + &format!(" outbound {} from {}", out.width, out.start);
+    line + &format!(" inbound {} from {}\n", back.width, back.start)
+}
+
+/// A plan, the lent list after it, and the measure of the offsets where there are some.
+fn planned(street: &Street, ask: Ask, room: usize) -> String {
+    let reply = plan(street, ask, room);
+    let mut lent = reply.as_ref().map_or(vec![], |plan| plan.offsets.clone());
+    lent.resize(room, PATTERN);
+    let measure = reply.as_ref().map_or(String::new(), |plan| measure_line(street, &plan.offsets));
+    plan_line(street, &reply) + &list("list", &lent) + &measure
+}
+
+/// Four calls with a list of another length, and one with offsets that are still the pattern.
+fn unequal(street: &Street) -> String {
+    let n = street.signals();
+    let (mut distances, mut outbound, mut inbound) = (street.clone(), street.clone(), street.clone());
+    distances.distances.pop();
+    outbound.outbound.push(0);
+    inbound.inbound.push(0);
+    let refused = [(distances, Ask::Equal), (outbound, Ask::Inbound(80)), (inbound, Ask::Outbound(80))];
+    let plans: String = refused.map(|(street, ask)| plan_line(&street, &plan(&street, ask, n))).concat();
+    let pattern = vec![PATTERN; n + 1];
+    let measures = measure_line(street, &pattern) + &measure_line(street, &pattern[..n]);
+    plans + &list("list", &pattern[..n]) + &measures
+}

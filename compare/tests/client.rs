@@ -1,0 +1,212 @@
+//! The C client over the compiled archive, which `client/run` builds, held to the model: on every sheet of
+//! docs/SHEETS.md, on the sample sheets with requests at the ends of their ranges, and on random sheets.
+
+use compare::asks::ask;
+use compare::client::{empty, prints};
+use compare::equal::Pairs;
+use compare::moved::{shortest_green, MAX_PLATOON};
+use compare::page::{Page, Sample};
+use compare::random::Random;
+use compare::run::{repository, Program};
+use compare::sheet::{read, LARGEST_SHEET, STREET_A};
+use compare::street::Street;
+use compare::streets;
+use compare::trial::{in_parallel, indented, Case};
+use std::fs;
+
+const SEED: u64 = 1_966;
+const RANDOM: u64 = 120;
+
+/// The greatest lent list of the client.
+const LARGEST_ROOM: usize = 64;
+
+/// One start of the client: the file that it opens, that file's bytes, and the words after its name.
+struct Run {
+    file: String,
+    sheet: Vec<u8>,
+    words: String,
+}
+
+/// A start whose sheet is handed over as the standard input.
+fn piped(sheet: &[u8], words: impl Into<String>) -> Run {
+    Run { file: "/dev/stdin".to_string(), sheet: sheet.to_vec(), words: words.into() }
+}
+
+fn difference(client: &Program, run: &Run) -> Option<String> {
+    let words: Vec<&str> = run.words.split_whitespace().collect();
+    let model = prints(&words, &run.sheet);
+    let all: Vec<&str> = [run.file.as_str()].into_iter().chain(words).collect();
+    let answer = match client.answer_to(&all, &run.sheet) {
+        Ok(answer) if answer == model.as_bytes() => return None,
+        Ok(answer) => String::from_utf8_lossy(&answer).into_owned(),
+        Err(fault) => fault,
+    };
+    let asked = format!("{} {}, with the sheet {}", run.file, run.words, run.sheet.escape_ascii());
+    Some(format!("{asked}\nthe model\n{}the client\n{}", indented(&model), indented(&answer)))
+}
+
+/// Holds the client to the model, and fails with the first differences.
+fn hold(runs: &[Run]) {
+    let client = Program::client();
+    println!("{} starts of the client", runs.len());
+    let found = in_parallel(runs, |run| difference(&client, run));
+    found.iter().take(3).for_each(|text| println!("\n{text}"));
+    assert!(found.is_empty(), "{} starts of the client differ from the model", found.len());
+}
+
+/// What is asked about any sheet that can be read; the first two are enough for one that cannot.
+const ALWAYS: [&str; 5] = ["", "print", "numbers", "unequal", "room 0"];
+
+/// What is asked about a sheet: of a street that has a plan also requests and lists at the ends of their ranges.
+fn questions(sheet: &[u8]) -> Vec<String> {
+    let street = read(sheet);
+    let always = if street.is_ok() { &ALWAYS[..] } else { &ALWAYS[..2] };
+    let planned = street.ok().filter(|street| street.range_fault().is_none());
+    let more = planned.iter().flat_map(at_the_ends);
+    always.iter().map(|words| words.to_string()).chain(more).collect()
+}
+
+fn at_the_ends(street: &Street) -> Vec<String> {
+    let (best, g, n) = (Pairs::of(street).reference().1, shortest_green(street), street.signals());
+    let widths = [best - 1, best, g, g + 1].map(|width| width.max(0));
+    let some = best.max(1);
+    let platoons = [
+        (0, 0),
+        (some / 2, some),
+        (2 * some, some),
+        (0, MAX_PLATOON),
+        (MAX_PLATOON + 1, MAX_PLATOON + 1),
+        (MAX_PLATOON, MAX_PLATOON + 1),
+    ];
+    let sides = widths.map(|width| [format!("outbound {width}"), format!("inbound {width}")]);
+    let rooms = [n - 1, LARGEST_ROOM].map(|room| format!("room {room}"));
+    let platoons = platoons.map(|(out, back)| format!("platoons {out} {back}"));
+    sides.into_iter().flatten().chain(rooms).chain(platoons).collect()
+}
+
+#[test]
+fn the_client_is_right_on_every_sheet_of_the_typists_page() {
+    let page = Page::open("SHEETS.md");
+    let samples: Vec<Sample> = page.blocks().into_iter().chain(page.slips()).collect();
+    assert_eq!(samples.len(), 36);
+    for Sample { sheet, prints: text, line } in &samples {
+        assert_eq!(&prints(&["print"], sheet), text, "docs/SHEETS.md, line {line}");
+    }
+    let asked = |sample: &Sample| {
+        questions(&sample.sheet).into_iter().map(|words| piped(&sample.sheet, words)).collect()
+    };
+    hold(&samples.iter().flat_map::<Vec<Run>, _>(asked).collect::<Vec<Run>>());
+}
+
+#[test]
+fn the_client_is_right_on_the_sample_sheets() {
+    let folder = fs::read_dir(repository().join("sheets")).expect("sheets/ is there");
+    let files = folder.map(|entry| entry.expect("a file of sheets/").path());
+    let mut runs = vec![];
+    for file in files.filter(|file| file.extension().is_some_and(|end| end == "txt")) {
+        let sheet = fs::read(&file).expect("a sample sheet");
+        let file = file.into_os_string().into_string().expect("a plain name");
+        let run = |words: String| Run { file: file.clone(), sheet: sheet.clone(), words };
+        runs.extend(questions(&sheet).into_iter().map(run));
+    }
+    assert!(runs.len() >= 250, "{} starts", runs.len());
+    hold(&runs);
+}
+
+/// A request about a random street, whose sheet may be damaged.
+fn random_run(number: u64) -> Run {
+    let random = &mut Random::new(SEED, number);
+    let street = streets::street(random);
+    let (n, any) = (street.signals(), random.below(LARGEST_ROOM + 1));
+    let words = match random.below(8) {
+        0 | 1 => random.pick(&ALWAYS).to_string(),
+        2 => format!("room {}", random.pick(&[n - 1, n, n + 1, any])),
+        _ => ask(random, &street).to_string(),
+    };
+    let case = Case::asking(random, number, words, &street);
+    piped(&case.sheet, case.request)
+}
+
+#[test]
+fn the_client_is_right_on_random_sheets() {
+    let runs: Vec<Run> = (0..RANDOM).map(random_run).collect();
+    let planned = |run: &&Run| {
+        let words: Vec<&str> = run.words.split_whitespace().collect();
+        prints(&words, &run.sheet).starts_with("plan code 0 ")
+    };
+    let planned = runs.iter().filter(planned).count();
+    assert!(planned > RANDOM as usize / 4, "{planned} plans");
+    hold(&runs);
+}
+
+#[test]
+fn the_client_sees_that_a_sheet_is_too_long() {
+    let of_length = |length: usize| {
+        let mut sheet = b"1\n100\n33\n".to_vec();
+        sheet.resize(length, b'0');
+        sheet
+    };
+    let lengths = [0, 9, LARGEST_SHEET, LARGEST_SHEET + 1, 2 * LARGEST_SHEET, 70_000];
+    let sheets = lengths.map(of_length);
+    assert_eq!(prints(&["print"], &sheets[2]), "refused 2 0\n");
+    assert_eq!(prints(&["print"], &sheets[3]), "refused 1 0\n");
+    hold(
+        &sheets.iter().flat_map(|sheet| ["", "print"].map(|words| piped(sheet, words))).collect::<Vec<Run>>(),
+    );
+}
+
+#[test]
+fn the_client_hands_over_empty_lists() {
+    let answer = Program::client().answer_to(&["empty"], b"").unwrap_or_else(|fault| panic!("{fault}"));
+    assert_eq!(String::from_utf8_lossy(&answer), empty());
+}
+
+#[test]
+fn the_client_tells_bad_words_from_a_refusal() {
+    let client = Program::client();
+    let bad: [&[&str]; 5] = [
+        &[],
+        &["/dev/stdin", "equal"],
+        &["/dev/stdin", "outbound"],
+        &["/dev/stdin", "room", "65"],
+        &["no-such-sheet.txt"],
+    ];
+    for words in bad {
+        let fault = client.answer_to(words, STREET_A).expect_err("such words are no good");
+        assert!(fault.contains("exit status: 2"), "{words:?}: {fault}");
+    }
+}
+
+/// The cases of client/expected.txt: after `$ ` the client's words, and the lines that it prints.
+fn shown() -> Vec<(String, String)> {
+    let text =
+        fs::read_to_string(repository().join("client/expected.txt")).expect("client/expected.txt is there");
+    let case = |part: &str| {
+        let (words, lines) = part.split_once('\n').expect("a line of words");
+        (words.to_string(), lines.to_string())
+    };
+    let end = |part: &str| if part.ends_with('\n') { part.to_string() } else { format!("{part}\n") };
+    text.split("\n$ ").skip(1).map(|part| case(&end(part))).collect()
+}
+
+#[test]
+fn the_clients_shown_lines_are_the_models() {
+    let cases = shown();
+    for words in ["sheets/street-a.txt", "sheets/street-a.txt room 1", "sheets/street-a.txt unequal", "empty"]
+    {
+        assert!(cases.iter().any(|(shown, _)| shown == words), "client/expected.txt does not show {words}");
+    }
+    for (line, text) in cases {
+        let words: Vec<&str> = line.split(' ').collect();
+        let model = match words[..] {
+            ["empty"] => empty(),
+            [file, ref words @ ..] => {
+                let sheet =
+                    fs::read(repository().join(file)).unwrap_or_else(|error| panic!("{file}: {error}"));
+                prints(words, &sheet)
+            }
+            [] => panic!("a case has no words"),
+        };
+        assert_eq!(model, text, "client/expected.txt, {line}");
+    }
+}
