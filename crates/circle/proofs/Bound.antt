@@ -15,7 +15,7 @@ use Rattle.circle.specs.Method.{Timed, halves, B}
 use Rattle.circle.specs.Bands.{outboundWay, inboundWay}
 use Rattle.circle.proofs.Signed.{sub-eq, pos-sub, add-sub, le-sub}
 use Rattle.circle.proofs.Man.{Turns}
-use Rattle.circle.proofs.Over.{minBelow, maxBelow, max-ge}
+use Rattle.circle.proofs.Over.{maxBelow, min-from, max-ge}
 use Rattle.circle.proofs.Method.{u-is}
 use Rattle.circle.proofs.Raised.{Fit, raised, larger-raised, top, b⁺, B-raised}
 use Rattle.circle.proofs.Arcs.{since, Passes}
@@ -142,15 +142,6 @@ module _ (s : Timed) (fit : Fit s) (rising : Rising s) (f : ℕ → ℕ) (x y v 
       let m = least-where (s .signals) (s .red) (κ s f x y) k l r in
       (m .at, m .below, m .counts, λ j lj rj. reaches (m .at) j (m .below) lj (m .counts) rj (m .least j lj rj))
 
--- a bound for each is one for the least
-min-from : (x top n : ℕ) (g : ℕ → ℕ) → x ≤ 2 * top → ((j : ℕ) → j < n → x ≤ 2 * g j) → x ≤ 2 * minBelow top n g
-unfolding minBelow
-min-from x top zero g l each = l
-min-from x top (suc n) g l each =
-    let before = min-from x top n g l (λ j h. each j (omega arith)) in
-    let last = each n (omega arith) in
-    omega arith
-
 module _ (s : Timed) (fit : Fit s) (stops : Stops s) (rising : Rising s) (f : ℕ → ℕ) where
   -- under any offsets the two bands together, raised by two cycles, are at most twice the raised B
   pub bound : (x y v v′ : ℕ) → 1 ≤ v + v′ → Passes (outboundWay s f) x v → Passes (inboundWay s f) y v′ → v + v′ + 2 * halves s ≤ 2 * maxBelow (s .signals) (b⁺ s)
@@ -159,7 +150,8 @@ module _ (s : Timed) (fit : Fit s) (stops : Stops s) (rising : Rising s) (f : �
       let first : 0 < s .signals = fit .some in
       let (i, l, r, each) = widest s fit rising f x y v v′ some out back 0 first (stops 0 first) in
       let most = max-ge (s .signals) (b⁺ s) i l in
-      let least = min-from (v + v′ + 2 * halves s) (4 * s .cycle) (s .signals) (larger-raised s i) (omega (arith, each i l r, top s fit i i l)) (λ j h. each j h (stops j h)) in
+      let half = (v + v′ + 2 * halves s + 1) / 2 in
+      let least = min-from (4 * s .cycle) (s .signals) (larger-raised s i) half (omega (arith, each i l r, top s fit i i l)) (λ j h. omega (arith, each j h (stops j h))) in
       omega arith
 
   pub bound-signed : (x y v v′ : ℕ) → 1 ≤ v + v′ → Passes (outboundWay s f) x v → Passes (inboundWay s f) y v′ → leℤ (pos (v + v′)) (B s +ℤ B s) ≡ true

@@ -14,7 +14,7 @@ use borrow.Author.Tests.{lt-ltb, le-ltb}
 use Rattle.circle.specs.Man.{man}
 use Rattle.circle.specs.Bands.{Way, greatestUpTo, stretch, width}
 use Rattle.circle.proofs.Man.{man-lt, man-is, man-turns}
-use Rattle.circle.proofs.Over.{minBelow, min-le}
+use Rattle.circle.proofs.Over.{minBelow, min-le, min-at, min-from}
 use Rattle.circle.proofs.Arcs.{since, Passes}
 use Rattle.circle.proofs.Tests.{greatest-le, greatest-passes, greatest-ge, greatest-is}
 use Rattle.circle.proofs.Stretches.{Proper, passes-stretch, stretch-passes, width-ge}
@@ -26,24 +26,6 @@ longest w x = greatestUpTo (w .around) (stretch w x)
 -- how much of the cycle a signal leaves a stretch from the instant x: what is neither its red nor gone since its red ended, and all of it where it has no red
 abbrev pub left : Way → ℕ → ℕ → ℕ
 left w x j = cond (ltb 0 (w .length j)) (w .around - (w .length j + since w x j)) (w .around)
-
--- the least of some numbers is at most each of them, and at least whatever is at most each
-min-each : (top n : ℕ) (g : ℕ → ℕ) (j : ℕ) → j < n → minBelow top n g ≤ g j
-unfolding minBelow
-min-each top zero g j l = absurd (omega arith)
-min-each top (suc n) g j l =
-    ⊎-elim
-    (λ s. let here : g j ≡ g n = ap g s in omega arith)
-    (λ m. let below = min-each top n g j m in omega arith)
-    (eq-or-lt-of-le (le-of-suc-le-suc l))
-
-le-min : (top n : ℕ) (g : ℕ → ℕ) (k : ℕ) → k ≤ top → ((j : ℕ) → j < n → k ≤ g j) → k ≤ minBelow top n g
-unfolding minBelow
-le-min top zero g k l each = l
-le-min top (suc n) g k l each =
-    let below = le-min top n g k l (λ j m. each j (omega arith)) in
-    let here = each n (omega arith) in
-    omega arith
 
 left-passes : (w : Way) (x k : ℕ) → 1 ≤ k → ((j : ℕ) → j < w .signals → k ≤ left w x j) → Passes w x k
 left-passes w x k one each =
@@ -74,8 +56,8 @@ pub longest-least : (w : Way) → Proper w → (x : ℕ) → longest w x ≡ min
 longest-least w proper x =
     let v = minBelow (w .around) (w .signals) (left w x) in
     greatest-is (w .around) (stretch w x) v (min-le (w .around) (w .signals) (left w x))
-    (λ one. passes-stretch w x v (left-passes w x v one (λ j lj. min-each (w .around) (w .signals) (left w x) j lj)))
-    (λ k one l e. le-min (w .around) (w .signals) (left w x) k l (passes-left w x k l (stretch-passes w proper x k one e)))
+    (λ one. passes-stretch w x v (left-passes w x v one (λ j lj. min-at (w .around) (w .signals) (left w x) j lj)))
+    (λ k one l e. min-from (w .around) (w .signals) (left w x) k l (passes-left w x k l (stretch-passes w proper x k one e)))
 
 pub longest-passes : (w : Way) → Proper w → (x : ℕ) → 1 ≤ longest w x → Passes w x (longest w x)
 longest-passes w proper x one =

@@ -1,12 +1,10 @@
 -- A request to move width, in plain numbers. Raised by the cycle B is a natural, and g is one as it stands; so a width in range is 1 or more, reaches B and leaves room for
 -- each signal's red, and the lowerings and what is left for the other direction are truncated differences. A signal never leaves less than B beside its red, so B is at
 -- most g; the reference's own u is the cycle, so an inbound request leaves it in place and an outbound one lowers it by w - B. Assumes nothing.
-use Prim.Native.Nat.{ℕ, zero, suc, _+_, _-_, _*_, _≤_, _<_, max}
+use Prim.Native.Nat.{ℕ, _+_, _-_, _*_, _≤_, _<_, max}
 use mathlib.Core.Path.{_≡_, refl, sym, ap, ap₂, _∙_}
 use mathlib.Core.Bool.{Bool, true, false, cond}
-use mathlib.Core.Logic.{⊎-elim}
 use native.Mathlib.Omega.{arith}
-use native.Mathlib.Nat.{eq-or-lt-of-le, le-of-suc-le-suc}
 use lib.IntN.{pos, subℕ, _+ℤ_, _-ℤ_}
 use lib.Dec.{leb}
 use borrow.Author.Tests.{le-leb, leb-true}
@@ -15,7 +13,7 @@ use Rattle.circle.specs.Method.{Timed, halves, B, reference, phase, offs
 use Rattle.circle.specs.Moved.{g, inRange, chosen, outboundLowering, inboundLowering, lowered, otherWidth}
 use Rattle.circle.proofs.Signed.{sub-eq, pos-sub, pos-minus, add-sub, minus-sub, le-sub, max-sub, orZero-sub}
 use Rattle.circle.proofs.Man.{Turns, man-turns}
-use Rattle.circle.proofs.Over.{minBelow, maxBelow, least-raised}
+use Rattle.circle.proofs.Over.{minBelow, maxBelow, min-at, min-from, least-raised}
 use Rattle.circle.proofs.Method.{u-is, u-range}
 use Rattle.circle.proofs.Raised.{Fit, b⁺, B-raised, low}
 use Rattle.circle.proofs.Reference.{reference-first, u-turns, leaves, phase-own}
@@ -33,24 +31,6 @@ pub record Asked (s : Timed) (w : ℕ) : Type 0 where
   pub some : 1 ≤ w
   pub reaches : B⁺ s ≤ w + halves s
   pub fits : (j : ℕ) → j < s .signals → w + 2 * s .red j ≤ halves s
-
--- a number is at most the least of several where it is at most each of them, and only there
-least-of : (w top n : ℕ) (f : ℕ → ℕ) → w ≤ top → ((j : ℕ) → j < n → w ≤ f j) → w ≤ minBelow top n f
-unfolding minBelow
-least-of w top zero f l each = l
-least-of w top (suc n) f l each =
-    let before = least-of w top n f l (λ j h. each j (omega arith)) in
-    let last = each n (omega arith) in
-    omega arith
-
-least-at : (w top n : ℕ) (f : ℕ → ℕ) → w ≤ minBelow top n f → (j : ℕ) → j < n → w ≤ f j
-unfolding minBelow
-least-at w top zero f l j h = absurd (omega arith)
-least-at w top (suc n) f l j h =
-    ⊎-elim
-    (λ e. let here : f j ≡ f n = ap f e in omega arith)
-    (λ m. least-at w top n f (omega arith) j m)
-    (eq-or-lt-of-le (le-of-suc-le-suc h))
 
 -- a natural, raised by h
 pub raise : (a h : ℕ) → pos a ≡ subℕ (a + h) h
@@ -89,7 +69,7 @@ module _ (s : Timed) (fit : Fit s) where
   -- g is at least what fits beside each red
   green-from : (w : ℕ) → ((j : ℕ) → j < s .signals → w + 2 * s .red j ≤ halves s) → w ≤ green s
   green-from w fits =
-      least-of w (halves s) (s .signals) (λ j. halves s - 2 * s .red j) (omega (arith, fits 0 (fit .some))) (λ j l. omega (arith, fits j l))
+      min-from (halves s) (s .signals) (λ j. halves s - 2 * s .red j) w (omega (arith, fits 0 (fit .some))) (λ j l. omega (arith, fits j l))
 
   pub green-some : 1 ≤ green s
   green-some = green-from 1 (λ j l. omega (arith, fit .goes j l))
@@ -134,7 +114,7 @@ module _ (s : Timed) (fit : Fit s) where
       record {
         some = omega arith;
         reaches = omega arith;
-        fits = λ j h. let beside = least-at w (halves s) (s .signals) (λ k. halves s - 2 * s .red k) m j h in omega (arith, low s fit j h);
+        fits = λ j h. let beside = min-at (halves s) (s .signals) (λ k. halves s - 2 * s .red k) j h in omega (arith, low s fit j h);
       }
 
   pub within : (w : ℕ) → 1 ≤ w → B⁺ s ≤ w + halves s → w ≤ green s → inRange s w ≡ true

@@ -86,6 +86,24 @@ unfolding minBelow
 min-le top zero g = omega arith
 min-le top (suc n) g = let below = min-le top n g in omega arith
 
+-- the least is at most each, and a number that is at most each is at most the least
+pub min-at : (top n : ℕ) (g : ℕ → ℕ) (k : ℕ) → k < n → minBelow top n g ≤ g k
+unfolding minBelow
+min-at top zero g k l = absurd (omega arith)
+min-at top (suc n) g k l =
+    ⊎-elim
+    (λ e. let here : g k ≡ g n = ap g e in omega arith)
+    (λ m. let below = min-at top n g k m in omega arith)
+    (eq-or-lt-of-le (le-of-suc-le-suc l))
+
+pub min-from : (top n : ℕ) (g : ℕ → ℕ) (x : ℕ) → x ≤ top → ((k : ℕ) → k < n → x ≤ g k) → x ≤ minBelow top n g
+unfolding minBelow
+min-from top zero g x l each = l
+min-from top (suc n) g x l each =
+    let before = min-from top n g x l (λ k h. each k (omega arith)) in
+    let last = each n (omega arith) in
+    omega arith
+
 pub max-more : (n : ℕ) (g : ℕ → ℕ) → maxBelow (n + 1) g ≡ max (maxBelow n g) (g n)
 unfolding maxBelow
 max-more n g = ap (λ (k : ℕ). maxBelow k g) (add-one n)

@@ -3,10 +3,8 @@
 use Prim.Native.Nat.{ℕ, zero, suc, _+_, _-_, _*_, _≤_, _<_}
 use mathlib.Core.Path.{_≡_, ap, ap₂, subst, _∙_}
 use mathlib.Core.Bool.{cond}
-use mathlib.Core.Logic.{⊎-elim}
 use native.Mathlib.Omega.{arith}
 use native.Mathlib.Decide.{decLe}
-use native.Mathlib.Nat.{eq-or-lt-of-le, le-of-suc-le-suc}
 use lib.IntN.{pos, _-ℤ_}
 use lib.Dec.{leb}
 use borrow.Author.Tests.{le-leb, lt-leb}
@@ -15,7 +13,7 @@ use Rattle.circle.specs.Man.{man}
 use Rattle.circle.specs.Method.{Timed, halves, u, pairWidth, reference, phase, offset}
 use Rattle.circle.proofs.Signed.{le-sub}
 use Rattle.circle.proofs.Man.{Turns, man-lt, man-turns}
-use Rattle.circle.proofs.Over.{minBelow, maxBelow, max-ge}
+use Rattle.circle.proofs.Over.{maxBelow, min-at, max-ge}
 use Rattle.circle.proofs.Method.{u-is, u-range, raised-width, offset-is}
 use Rattle.circle.proofs.Raised.{Fit, raised, larger-raised, b⁺, low, reference-is}
 
@@ -37,15 +35,6 @@ first-best (suc (suc n)) g l = go (decLe (g (suc n)) (maxBelow (suc n) g)) (firs
         (c, record { below = omega (arith, m .below); best = omega (arith, m .best); before = λ k i. omega (arith, m .before k i) })
     go (no h) m =
         (suc n, record { below = omega arith; best = omega arith; before = λ k i. omega (arith, max-ge (suc n) g k i) })
-
-min-at : (top n : ℕ) (g : ℕ → ℕ) (k : ℕ) → k < n → minBelow top n g ≤ g k
-unfolding minBelow
-min-at top zero g k l = absurd (omega arith)
-min-at top (suc n) g k l =
-    ⊎-elim
-    (λ e. let here : g k ≡ g n = ap g e in omega arith)
-    (λ m. let below = min-at top n g k m in omega arith)
-    (eq-or-lt-of-le (le-of-suc-le-suc l))
 
 -- from u back to what it is the remainder of
 pub u-turns : (s : Timed) (i j e : ℕ) → 0 < halves s → Turns (halves s) (halves s - u s i j e + (s .red j + s .outbound i + s .inbound i + e)) (s .red i + s .outbound j + s .inbound j)
