@@ -16,14 +16,15 @@ use Rattle.circle.proofs.Method.{raised-width}
 use Rattle.circle.proofs.Raised.{Fit, raised, larger-raised, b⁺, b⁺-le, low, top, B-raised, reference-is}
 use Rattle.street.specs.Streets.{timedStreet, Sound}
 use Rattle.street.specs.declared.Street.{Street}
-use Rattle.plans.specs.Search.{lowered, Row, wider, Searched}
+use Rattle.plans.specs.Search.{lowered, Pair, Row, wider, Reduced, Turning, Searched}
+use Rattle.plans.proofs.SearchLaws.{pair-widths, place-lt}
 
 pub lowered-injective : (s : Timed) (x y : ℕ) → lowered s x ≡ subℕ y (halves s) → x ≡ y
 lowered-injective s x y e = sub-injective x y (halves s) (sym (pos-minus x (halves s)) ∙ e)
 
 module _ (s : Timed) (fit : Fit s) where
-  -- a row's least is its candidate's b(i)
-  pub least-is : (i : ℕ) (row : List (List ℕ)) (r : ℕ) → Row s i row → pos r ≡ leastBelow (s .signals) (wider row) → r ≡ b⁺ s i
+  -- the least of a row of pairs is its candidate's b(i)
+  least-is : (i : ℕ) (row : List (List ℕ)) (r : ℕ) → ((j : ℕ) → j < s .signals → Pair s i j (getD row j [])) → pos r ≡ leastBelow (s .signals) (wider row) → r ≡ b⁺ s i
   unfolding b⁺
   least-is i row r ok e =
       sub-injective r (minBelow (4 * s .cycle) (s .signals) (larger-raised s i)) 0
@@ -32,8 +33,8 @@ module _ (s : Timed) (fit : Fit s) where
       ∙ least-raised 0 (4 * s .cycle) (s .signals) (wider row) (larger-raised s i) (fit .some) (top s fit i)
       (λ j l.
       ap₂ (λ (x y : ℕ). maxℤ (pos x) (pos y))
-      (lowered-injective s _ _ (ok .each j l .even ∙ raised-width s i j 0 (low s fit j l)))
-      (lowered-injective s _ _ (ok .each j l .odd ∙ raised-width s i j (s .cycle) (low s fit j l)))
+      (lowered-injective s _ _ (ok j l .even ∙ raised-width s i j 0 (low s fit j l)))
+      (lowered-injective s _ _ (ok j l .odd ∙ raised-width s i j (s .cycle) (low s fit j l)))
       ∙ ap₂ maxℤ (pos-sub (raised s i j 0)) (pos-sub (raised s i j (s .cycle)))
       ∙ max-sub (raised s i j 0) (raised s i j (s .cycle)) 0))
 
@@ -72,16 +73,30 @@ leads-still g k signal most x lead l e =
       before = lead .before;
     }
 
--- one more row of the table of widths
-pub rows-more : (s : Timed) (widths : List (List (List ℕ))) (i : ℕ) (row : List (List ℕ)) → i < 32 → length widths ≡ 32 → ((q : ℕ) → q < i → Row s q (getD widths q [])) → Row s i row → (q : ℕ) → q < i + 1 → Row s q (getD (set widths i row) q [])
-rows-more s widths i row l size before here q m =
-    let here′ = subst (Row s i) (sym (getD-set-same widths i row [] (omega arith))) here in
-    below-more (λ k. Row s k (getD (set widths i row) k [])) i
-    (λ k o. subst (Row s k) (sym (getD-set-other widths i k row [] (λ same. omega arith))) (before k o))
+-- a property of each row of the table of widths, with one row more
+pub rows-more : (P : ℕ → List (List ℕ) → Type 0) (widths : List (List (List ℕ))) (i : ℕ) (row : List (List ℕ)) → i < 32 → length widths ≡ 32 → ((q : ℕ) → q < i → P q (getD widths q [])) → P i row → (q : ℕ) → q < i + 1 → P q (getD (set widths i row) q [])
+rows-more P widths i row l size before here q m =
+    let here′ = subst (P i) (sym (getD-set-same widths i row [] (omega arith))) here in
+    below-more (λ k. P k (getD (set widths i row) k [])) i
+    (λ k o. subst (P k) (sym (getD-set-other widths i k row [] (λ same. omega arith))) (before k o))
     here′ q m
 
 pub fit-sound : (s : Street) → Sound s → Fit (timedStreet s)
 fit-sound s ok = record { some = ok .some; turns = omega (arith, ok .shortest); goes = ok .goes }
+
+-- a sound street's places lie on the cycle
+pub turning : (s : Street) (x : List ℕ) → Sound s → Reduced (timedStreet s) x → Turning (s .cycle) (s .signals) (s .reds) x
+turning s x ok places =
+    record { goes = ok .goes; on = λ k l. place-lt (timedStreet s) x k places l (omega (arith, ok .shortest)) }
+
+-- and the least of its row is a candidate's b(i)
+pub candidate-is : (s : Street) (x : List ℕ) (i : ℕ) (row : List (List ℕ)) (r : ℕ) → Sound s → Reduced (timedStreet s) x → i < s .signals → Row (s .cycle) (s .signals) (s .reds) x i row → pos r ≡ leastBelow (s .signals) (wider row) → r ≡ b⁺ (timedStreet s) i
+candidate-is s x i row r ok places l filled e =
+    let turns : 0 < s .cycle = omega (arith, ok .shortest) in
+    least-is (timedStreet s) (fit-sound s ok) i row r
+    (λ j h.
+    pair-widths (timedStreet s) i j (getD x i 0) (getD x j 0) (getD row j []) turns (ok .goes j h) (places .each i l) (places .each j h) (filled .each j h))
+    e
 
 -- who leads after all candidates is the reference, with B
 pub settled : (s : Timed) → Fit s → (k signal most : ℕ) → k ≡ s .signals → Leading (b⁺ s) k signal most → Searched s (record { signal = signal; raised = most })

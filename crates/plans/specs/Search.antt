@@ -34,9 +34,14 @@ pub record Pair (s : Timed) (i j : ℕ) (w : List ℕ) : Type 0 where
   pub even : lowered s (getD w 0 0) ≡ pairWidth s i j 0
   pub odd : lowered s (getD w 1 0) ≡ pairWidth s i j (s .cycle)
 
--- a candidate's row of pairs, one for each limit
-pub record Row (s : Timed) (i : ℕ) (row : List (List ℕ)) : Type 0 where
-  pub each : (j : ℕ) → j < s .signals → Pair s i j (getD row j [])
+-- reds shorter than the cycle, and places on it
+pub record Turning (cycle n : ℕ) (reds x : List ℕ) : Type 0 where
+  pub goes : (k : ℕ) → k < n → getD reds k 0 < cycle
+  pub on : (k : ℕ) → k < n → getD x k 0 < 2 * cycle
+
+-- the row of the candidate i, from the reds and the places: a pair for each limit
+pub record Row (cycle n : ℕ) (reds x : List ℕ) (i : ℕ) (row : List (List ℕ)) : Type 0 where
+  pub each : (j : ℕ) → j < n → getD row j [] ≡ pairOf cycle (getD x i 0) (getD x j 0) (getD reds j 0)
 
 -- the larger of a row's pair at a limit
 abbrev pub wider : List (List ℕ) → ℕ → ℤ

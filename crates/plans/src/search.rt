@@ -7,7 +7,7 @@ ghost use lib.IntN.{pos, _-ℤ_};
 ghost use Rattle.circle.specs.Signed.{minℤ, maxℤ, orZero};
 ghost use Rattle.circle.specs.Over.{leastBelow};
 ghost use Rattle.street.specs.Streets.{timedStreet, Sound};
-ghost use Rattle.plans.specs.Search.{pairOf, Reduced, Row, wider, Searched};
+ghost use Rattle.plans.specs.Search.{pairOf, Reduced, Turning, Row, wider, Searched};
 
 // What the search settles on: the reference's index, counted from 0, and B raised by H.
 pub struct Candidate {
@@ -71,17 +71,15 @@ pub fn pair(cycle: u32, from: u32, to: u32, red: u32) -> [u32; 2]
 }
 
 // A candidate's row: a pair of raised widths for each limit.
-fn row(s: Street, x: [u32; 32], i: usize) -> [[u32; 2]; 32]
-    requires { ⌜ Sound s × Reduced (timedStreet s) x × (i < s .signals) ⌝ }
-    ensures { λ r. ⌜ Row (timedStreet s) i r ⌝ }
+fn row(cycle: u32, reds: &[u32; 32], x: &[u32; 32], n: usize, i: usize) -> [[u32; 2]; 32]
+    requires { ⌜ (1 ≤ cycle) × (cycle ≤ 6000) × (n ≤ 32) × (i < n) × Turning cycle n (now reds) (now x) ⌝ }
+    ensures { λ r. ⌜ Row cycle n (now (reds .entry)) (now (x .entry)) i r ⌝ }
 {
-    let n = s.signals;
-    let cycle = s.cycle;
     let from = x[i];
     let mut pairs = [[0u32; 2]; 32];
     let mut j: usize = 0;
     while j < n {
-        pairs[j] = pair(cycle, from, x[j], s.reds[j]);
+        pairs[j] = pair(cycle, from, x[j], reds[j]);
         j += 1;
     }
     pairs
@@ -108,10 +106,12 @@ pub fn reference(s: Street, x: [u32; 32]) -> Candidate
     ensures { λ r. ⌜ Searched (timedStreet s) r ⌝ }
 {
     let n = s.signals;
+    let cycle = s.cycle;
+    let reds = s.reds;
     let mut widths = [[[0u32; 2]; 32]; 32];
     let mut i: usize = 0;
     while i < n {
-        widths[i] = row(s, x, i);
+        widths[i] = row(cycle, &reds, &x, n, i);
         i += 1;
     }
     let mut signal: usize = 0;

@@ -8,7 +8,7 @@ use native.Mathlib.Omega.{arith}
 use lib.ListN.{length-set, length, getD}
 use borrow.Author.Count.{below-none}
 use borrow.Author.Needs.{needs}
-use Rattle.plans.proofs.Raised.{settled, Leading, leads-first, leads-new, leads-still, rows-more, fit-sound, least-is}
+use Rattle.plans.proofs.Raised.{settled, Leading, leads-first, leads-new, leads-still, rows-more, fit-sound, turning, candidate-is}
 use Rattle.street.specs.Streets.{timedStreet}
 use Rattle.plans.specs.Search.{Row}
 use Rattle.circle.proofs.Raised.{b⁺}
@@ -16,22 +16,25 @@ use Rattle.plans.proofs.search.reference.Statement.{statement}
 use Rattle.plans.proofs.search.reference.Tie as tie
 
 abbrev Inv-loop : tie.InvT-loop
-Inv-loop s x n widths₀ i₀ widths i = (i ≤ s .signals) × (length widths ≡ 32) × ((q : ℕ) → q < i → Row (timedStreet s) q (getD widths q []))
+Inv-loop s x n cycle reds widths₀ i₀ widths i = (i ≤ s .signals) × (length widths ≡ 32) × ((q : ℕ) → q < i → Row (s .cycle) (s .signals) (s .reds) x q (getD widths q []))
 
 abbrev μ-loop : tie.MeasureT-loop
-μ-loop s x n widths₀ i₀ widths i = s .signals - i
+μ-loop s x n cycle reds widths₀ i₀ widths i = s .signals - i
 
 abbrev Inv-loop2 : tie.InvT-loop2
-Inv-loop2 s n widths i signal₀ raised₀ k₀ signal raised k = (1 ≤ k) × (k ≤ s .signals) × Leading (b⁺ (timedStreet s)) k signal raised
+Inv-loop2 s n cycle widths i signal₀ raised₀ k₀ signal raised k = (1 ≤ k) × (k ≤ s .signals) × Leading (b⁺ (timedStreet s)) k signal raised
 
 abbrev μ-loop2 : tie.MeasureT-loop2
-μ-loop2 s n widths i signal₀ raised₀ k₀ signal raised k = s .signals - k
+μ-loop2 s n cycle widths i signal₀ raised₀ k₀ signal raised k = s .signals - k
 
 loop-holds : tie.Need-loop-holds Inv-loop μ-loop Inv-loop2 μ-loop2
 loop-holds c = (search needs, refl, below-none _)
 
 row-requires : tie.Need-row-requires Inv-loop μ-loop Inv-loop2 μ-loop2
-row-requires c κs = (c .before .before .pre .0, c .before .before .pre .1, c .loop-test .taken)
+row-requires c κs =
+    let c0 = c .before .before .before .before .before in
+    let ok = c0 .pre .0 in
+    (omega (arith, ok .shortest), ok .longest, ok .few, c .before .before .loop-test .taken, turning (c0 .args .s) (c0 .args .t2) ok (c0 .pre .1))
 
 mul-widths : tie.Need-mul-widths Inv-loop μ-loop Inv-loop2 μ-loop2
 mul-widths c = search needs
@@ -46,7 +49,11 @@ loop-less : tie.Need-loop-less Inv-loop μ-loop Inv-loop2 μ-loop2
 loop-less c = search needs
 
 loop-again : tie.Need-loop-again Inv-loop μ-loop Inv-loop2 μ-loop2
-loop-again c = (omega arith, simp length-set (c .before .before .loop .inv .1), rows-more (timedStreet (c .before .before .before .args .s)) (c .before .before .loop .widths) (c .before .before .loop .i) (c .row .result) (omega (arith, c .before .before .before .pre .0 .few)) (c .before .before .loop .inv .1) (c .before .before .loop .inv .2) (c .row .ensures))
+loop-again c =
+    let c0 = c .before .before .before .before .before .before in
+    let loop = c .before .before .before .before .loop in
+    let s = c0 .args .s in
+    (omega arith, simp length-set (loop .inv .1), rows-more (Row (s .cycle) (s .signals) (s .reds) (c0 .args .t2)) (loop .widths) (loop .i) (c .row .result) (omega (arith, c0 .pre .0 .few)) (loop .inv .1) (loop .inv .2) (c .row .ensures))
 
 index-1-least : tie.Need-index-1-least Inv-loop μ-loop Inv-loop2 μ-loop2
 index-1-least c = search needs
@@ -55,7 +62,13 @@ least-requires : tie.Need-least-requires Inv-loop μ-loop Inv-loop2 μ-loop2
 least-requires c κs = search needs
 
 loop2-holds : tie.Need-loop2-holds Inv-loop μ-loop Inv-loop2 μ-loop2
-loop2-holds c = (search needs, omega (arith, c .before .before .before .before .pre .0 .some), leads-first _ _ (least-is (timedStreet (c .before .before .before .before .args .s)) (fit-sound (c .before .before .before .before .args .s) (c .before .before .before .before .pre .0)) 0 (getD (c .before .before .before .loop .widths) 0 []) (c .least .result) (c .before .before .before .loop .inv .2 0 (omega (arith, c .before .before .before .before .pre .0 .some))) (c .least .ensures)))
+loop2-holds c =
+    let c0 = c .before .before .before .before .before in
+    let rows = c .before .before .before .loop in
+    let ok = c0 .pre .0 in
+    let s = c0 .args .s in
+    let first : 0 < s .signals = omega (arith, ok .some) in
+    (search needs, ok .some, leads-first _ _ (candidate-is s (c0 .args .t2) 0 (getD (rows .widths) 0 []) (c .least .result) ok (c0 .pre .1) first (rows .inv .2 0 (omega arith)) (c .least .ensures)))
 
 mul-least : tie.Need-mul-least Inv-loop μ-loop Inv-loop2 μ-loop2
 mul-least c = search needs
@@ -73,10 +86,32 @@ loop2-less : tie.Need-loop2-less Inv-loop μ-loop Inv-loop2 μ-loop2
 loop2-less c = search needs
 
 loop2-again : tie.Need-loop2-again Inv-loop μ-loop Inv-loop2 μ-loop2
-loop2-again c = let g = b⁺ (timedStreet (c .before .before .before .before .before .before .before .before .before .before .args .s)) in let k = c .before .before .before .before .before .loop2 .k in let here = least-is (timedStreet (c .before .before .before .before .before .before .before .before .before .before .args .s)) (fit-sound (c .before .before .before .before .before .before .before .before .before .before .args .s) (c .before .before .before .before .before .before .before .before .before .before .pre .0)) (c .before .before .before .before .before .loop2 .k) (getD (c .before .before .before .before .before .before .before .before .before .loop .widths) (c .before .before .before .before .before .loop2 .k) []) (c .before .least2 .result) (c .before .before .before .before .before .before .before .before .before .loop .inv .2 (c .before .before .before .before .before .loop2 .k) (omega arith)) (c .before .least2 .ensures) in (omega arith, omega arith, ⊎-elim (λ w. subst₂ (Leading g (k + 1)) (sym (w .1)) (sym (w .2)) (leads-new g k (c .before .before .before .before .before .loop2 .signal) (c .before .before .before .before .before .loop2 .raised) (c .before .least2 .result) (c .before .before .before .before .before .loop2 .inv .2) (w .0 .taken) here)) (λ w. subst₂ (Leading g (k + 1)) (sym (w .1)) (sym (w .2)) (leads-still g k (c .before .before .before .before .before .loop2 .signal) (c .before .before .before .before .before .loop2 .raised) (c .before .least2 .result) (c .before .before .before .before .before .loop2 .inv .2) (w .0 .left) here)) (c .if2 .came))
+loop2-again c =
+    let c0 = c .before .before .before .before .before .before .before .before .before .before .before in
+    let rows = c .before .before .before .before .before .before .before .before .before .loop in
+    let loop = c .before .before .before .before .before .loop2 in
+    let s = c0 .args .s in
+    let g = b⁺ (timedStreet s) in
+    let k = loop .k in
+    let here = candidate-is s (c0 .args .t2) k (getD (rows .widths) k []) (c .before .least2 .result) (c0 .pre .0) (c0 .pre .1) (omega arith) (rows .inv .2 k (omega arith)) (c .before .least2 .ensures) in (
+      omega arith,
+      omega arith,
+      ⊎-elim
+          (λ w.
+          subst₂ (Leading g (k + 1)) (sym (w .1)) (sym (w .2))
+          (leads-new g k (loop .signal) (loop .raised) (c .before .least2 .result) (loop .inv .2) (w .0 .taken) here))
+          (λ w.
+          subst₂ (Leading g (k + 1)) (sym (w .1)) (sym (w .2))
+          (leads-still g k (loop .signal) (loop .raised) (c .before .least2 .result) (loop .inv .2) (w .0 .left) here))
+          (c .if2 .came),
+    )
 
 returns : tie.Need-returns Inv-loop μ-loop Inv-loop2 μ-loop2
-returns c = let lead = c .before .before .loop2 .inv .2 in let all : c .before .before .loop2 .k ≡ c .before .before .before .before .before .before .before .args .s .signals = omega arith in settled (timedStreet (c .before .before .before .before .before .before .before .args .s)) (fit-sound (c .before .before .before .before .before .before .before .args .s) (c .before .before .before .before .before .before .before .pre .0)) (c .before .before .loop2 .k) (c .before .before .loop2 .signal) (c .before .before .loop2 .raised) all lead
+returns c =
+    let c0 = c .before .before .before .before .before .before .before .before in
+    let loop = c .before .before .loop2 in
+    let all : loop .k ≡ c0 .args .s .signals = omega arith in
+    settled (timedStreet (c0 .args .s)) (fit-sound (c0 .args .s) (c0 .pre .0)) (loop .k) (loop .signal) (loop .raised) all (loop .inv .2)
 
 pub reference-spec : {M : Type 1} → statement M
 reference-spec =

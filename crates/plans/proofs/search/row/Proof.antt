@@ -1,30 +1,27 @@
--- `plans::search::row` meets its contract. The loop's invariant: the row holds the pairs of the limits before `j`; each pair's numbers are the raised widths, by the law on
--- places. Assumes nothing.
-use Prim.Native.Nat.{_-_, _≤_}
+-- `plans::search::row` meets its contract. The loop's invariant: the row holds the pairs of the limits before `j`, and zeros from there on. Assumes nothing.
+use Prim.Native.Nat.{ℕ, _-_, _≤_}
 use mathlib.Core.Path.{_≡_, refl, ap, _∙_}
-use mathlib.Core.List.{[], _++_}
+use mathlib.Core.List.{List, [], _++_}
 use native.Mathlib.Omega.{arith}
 use lib.ListN.{replicate, drop, getD}
 use borrow.Author.Needs.{needs}
-use Rattle.plans.proofs.SearchLaws.{place-lt, pair-widths}
 use Rattle.circle.specs.Over.{listBelow}
 use Rattle.circle.proofs.Over.{fill-store, getD-listBelow}
-use Rattle.street.specs.Streets.{timedStreet}
 use Rattle.plans.specs.Search.{pairOf}
 use Rattle.plans.proofs.search.row.Statement.{statement}
 use Rattle.plans.proofs.search.row.Tie as tie
 
 abbrev Inv-loop : tie.InvT-loop
-Inv-loop i s x n cycle from pairs₀ j₀ pairs j = (j ≤ s .signals) × (pairs ≡ listBelow j (λ q. pairOf cycle from (getD x q 0) (getD (s .reds) q 0)) ++ drop j (replicate 32 (replicate 2 0)))
+Inv-loop cycle reds x n i from pairs₀ j₀ pairs j = (j ≤ n) × (pairs ≡ listBelow j (λ q. pairOf cycle from (getD x q 0) (getD reds q 0)) ++ drop j (replicate 32 (replicate 2 0)))
 
 abbrev μ-loop : tie.MeasureT-loop
-μ-loop i s x n cycle from pairs₀ j₀ pairs j = s .signals - j
+μ-loop cycle reds x n i from pairs₀ j₀ pairs j = n - j
 
 mul-from : tie.Need-mul-from Inv-loop μ-loop
 mul-from c = search needs
 
-array-read-from : tie.Need-array-read-from Inv-loop μ-loop
-array-read-from c = search needs
+element-copy-out-from : tie.Need-element-copy-out-from Inv-loop μ-loop
+element-copy-out-from c = search needs
 
 loop-holds : tie.Need-loop-holds Inv-loop μ-loop
 unfolding listBelow
@@ -33,17 +30,21 @@ loop-holds c = (search needs, refl)
 mul-pair : tie.Need-mul-pair Inv-loop μ-loop
 mul-pair c = search needs
 
-array-read-pair : tie.Need-array-read-pair Inv-loop μ-loop
-array-read-pair c = search needs
+element-copy-out-pair : tie.Need-element-copy-out-pair Inv-loop μ-loop
+element-copy-out-pair c = search needs
 
 mul-pair-2 : tie.Need-mul-pair-2 Inv-loop μ-loop
 mul-pair-2 c = search needs
 
-element-copy-out-pair : tie.Need-element-copy-out-pair Inv-loop μ-loop
-element-copy-out-pair c = search needs
+element-copy-out-pair-2 : tie.Need-element-copy-out-pair-2 Inv-loop μ-loop
+element-copy-out-pair-2 c = search needs
 
 pair-requires : tie.Need-pair-requires Inv-loop μ-loop
-pair-requires c κs = omega (arith, c .before .before .before .pre .0 .shortest, c .before .before .before .pre .0 .longest, place-lt (timedStreet (c .before .before .before .args .t1)) (c .before .before .before .args .t2) (c .before .before .before .args .i) (c .before .before .before .pre .1) (omega (arith, c .before .before .before .pre .2)) (omega (arith, c .before .before .before .pre .0 .shortest)), place-lt (timedStreet (c .before .before .before .args .t1)) (c .before .before .before .args .t2) (c .before .before .loop .j) (c .before .before .before .pre .1) (omega (arith, c .before .before .before .pre .2)) (omega (arith, c .before .before .before .pre .0 .shortest)), c .before .before .before .pre .0 .goes (c .before .before .loop .j) (omega arith))
+pair-requires c κs =
+    let c0 = c .before .before .before .before .before in
+    let j = c .before .before .before .loop .j in
+    let turning = c0 .pre .4 in
+    omega (arith, c0 .pre .0, c0 .pre .1, turning .on (c0 .args .i) (c0 .pre .3), turning .on j (omega arith), turning .goes j (omega arith))
 
 mul-pairs : tie.Need-mul-pairs Inv-loop μ-loop
 mul-pairs c = search needs
@@ -58,10 +59,18 @@ loop-less : tie.Need-loop-less Inv-loop μ-loop
 loop-less c = search needs
 
 loop-again : tie.Need-loop-again Inv-loop μ-loop
-loop-again c = (omega arith, fill-store (replicate 32 (replicate 2 0)) (c .before .before .before .loop .pairs) (λ q. pairOf (c .before .before .before .before .args .t1 .cycle) (getD (c .before .before .before .before .args .t2) (c .before .before .before .before .args .i) 0) (getD (c .before .before .before .before .args .t2) q 0) (getD (c .before .before .before .before .args .t1 .reds) q 0)) (c .before .before .before .loop .j) (c .pair .result) [] (omega (arith, c .before .before .before .before .pre .0 .few)) (c .before .before .before .loop .inv .1) (c .pair .ensures))
+loop-again c =
+    let c0 = c .before .before .before .before .before .before in
+    let loop = c .before .before .before .before .loop in
+    let all : ℕ → List ℕ = λ q. pairOf (c0 .args .cycle) (getD (c0 .args .x .now) (c0 .args .i) 0) (getD (c0 .args .x .now) q 0) (getD (c0 .args .reds .now) q 0) in
+    (omega arith, fill-store (replicate 32 (replicate 2 0)) (loop .pairs) all (loop .j) (c .pair .result) [] (omega (arith, c0 .pre .2)) (loop .inv .1) (c .pair .ensures))
 
 returns : tie.Need-returns Inv-loop μ-loop
-returns c = record { each = λ j l. pair-widths (timedStreet (c .before .before .args .t1)) (c .before .before .args .i) j (getD (c .before .before .args .t2) (c .before .before .args .i) 0) (getD (c .before .before .args .t2) j 0) (getD (c .before .loop .pairs) j []) (omega (arith, c .before .before .pre .0 .shortest)) (c .before .before .pre .0 .goes j l) (c .before .before .pre .1 .each (c .before .before .args .i) (c .before .before .pre .2)) (c .before .before .pre .1 .each j l) (ap (λ z. getD z j []) (c .before .loop .inv .1) ∙ getD-listBelow (c .before .loop .j) (λ q. pairOf (c .before .before .args .t1 .cycle) (getD (c .before .before .args .t2) (c .before .before .args .i) 0) (getD (c .before .before .args .t2) q 0) (getD (c .before .before .args .t1 .reds) q 0)) _ j [] (omega arith)) }
+returns c =
+    let c0 = c .before .before .before in
+    let loop = c .before .loop in
+    let all : ℕ → List ℕ = λ q. pairOf (c0 .args .cycle) (getD (c0 .args .x .now) (c0 .args .i) 0) (getD (c0 .args .x .now) q 0) (getD (c0 .args .reds .now) q 0) in
+    record { each = λ j l. ap (λ z. getD z j []) (loop .inv .1) ∙ getD-listBelow (loop .j) all _ j [] (omega arith) }
 
 pub row-spec : {M : Type 1} → statement M
 row-spec =
@@ -70,12 +79,12 @@ row-spec =
     Inv-loop
     μ-loop
     mul-from
-    array-read-from
+    element-copy-out-from
     loop-holds
     mul-pair
-    array-read-pair
-    mul-pair-2
     element-copy-out-pair
+    mul-pair-2
+    element-copy-out-pair-2
     pair-requires
     mul-pairs
     array-set-from-pairs
