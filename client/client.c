@@ -8,8 +8,7 @@
  *
  * Without a word after the sheet, or with `room`, it is the equal plan. `print` shows the printed plan and `numbers`
  * what the reader read. `unequal` hands over lists whose lengths do not fit, and `empty` hands null pointers and
- * counts of 0 to every call. Exit status: 0, or 2 where the words or the
- * file are no good; a refusal is an answer.
+ * counts of 0 to every call. Exit status: 0, or 2 where the words or the file are no good; a refusal is an answer.
  */
 #include "corbatan.h"
 

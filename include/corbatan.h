@@ -59,7 +59,7 @@
 #define CORBATAN_DISTANCE 6 /* A distance is above 20,000,000 mm or not above the one before; the signal. */
 #define CORBATAN_SPEED 7    /* A speed is not 1,000 to 40,000 mm/s; the link. */
 #define CORBATAN_PLATOON 8  /* A platoon is longer than 100,000 halves; 1 outbound, 2 inbound. */
-#define CORBATAN_WIDTH 9    /* A requested width is out of its range; place 0. */
+#define CORBATAN_WIDTH 9    /* A requested width is below 1, below B or above the least H - 2r; place 0. */
 #define CORBATAN_OFFSET 10  /* A measured offset is not below H; the signal. */
 
 #ifdef __cplusplus
@@ -71,12 +71,12 @@ typedef struct CorbatanPlan {
     uint32_t code;      /* 0 for a plan, else the number of the refusal. */
     uint32_t place;     /* The signal, link or direction that was refused, counted from 1, or 0. */
     uint32_t reference; /* The reference signal c, from 1 to n. */
-    int32_t b;          /* B, the width of both bands in the equal plan, in halves; negative where it has none. */
+    int32_t b;          /* B, the width of both bands in the equal plan, in halves; 0 or negative where it has none. */
     uint32_t outbound;  /* The width of the outbound band, in halves. */
     uint32_t inbound;   /* The width of the inbound band, in halves. */
     uint32_t rounded;   /* How many links have a travel time, either way, that was rounded to whole ticks. */
-    uint32_t starts;    /* The instant at c at which the outbound band starts, in halves, below H. */
-    uint32_t ends;      /* The instant at c at which the inbound band ends, in halves, below H. */
+    uint32_t starts;    /* The instant at c at which the named outbound band starts, in halves, below H; given for width 0 too. */
+    uint32_t ends;      /* The instant at c at which the named inbound band ends, in halves, below H; given for width 0 too. */
 } CorbatanPlan;
 
 /* The bands of given offsets, a band of width 0 with start 0; or a refusal, whose numbers but code and place are 0. */

@@ -5,8 +5,8 @@ ghost use mathlib.Core.Path.{_≡_};
 ghost use Rattle.street.specs.Limits.{maxSignals};
 ghost use Rattle.printed.specs.Way.{equalText};
 
-// Writes the text that answers a sheet. What is written cannot be told by a contract, so that it is the answer is asked for here, at
-// the one place where the program writes.
+// Writes the text that answers a sheet. No contract can tell what is written; so that the text answers the bytes beside it is asked for
+// here, at the one place where the program writes.
 fn send(sheet: &[u8], text: &[u8])
     requires { ⌜ now text ≡ equalText (now sheet) maxSignals ⌝ }
 {

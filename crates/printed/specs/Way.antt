@@ -17,7 +17,7 @@ abbrev pub listsOf : Sheet → Lists
 listsOf s =
     typed (s .cycle) (take (s .signals) (s .reds)) (take (s .signals) (s .distances)) (take (s .signals - 1) (s .outbound)) (take (s .signals - 1) (s .inbound))
 
--- a list of some room has as many entries, and 32 at most
+-- how many entries are lent for a room: as many, but 32 at most
 abbrev pub lentOf : ℕ → ℕ
 lentOf room = cond (ltb room maxSignals) room maxSignals
 

@@ -14,3 +14,4 @@ pub mod Replies
 pub mod Tight
 pub mod Moved
 pub mod Rows
+pub mod Kept

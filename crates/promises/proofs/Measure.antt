@@ -9,9 +9,10 @@ use lib.ListN.{length, getD}
 use borrow.Author.Tests.{lt-leb}
 use Rattle.circle.specs.Man.{man}
 use Rattle.circle.specs.Method.{halves, reference, redStart}
-use Rattle.circle.specs.Bands.{width, bandStart, outboundWay, inboundWay}
+use Rattle.circle.specs.Bands.{width, outboundWay, inboundWay}
 use Rattle.circle.proofs.Over.{first-nowhere, length-listBelow, getD-listBelow}
 use Rattle.circle.proofs.Method.{offset-lt}
+use Rattle.circle.proofs.Since.{along}
 use Rattle.circle.proofs.Alike.{Alike, width-alike}
 use Rattle.street.specs.Lists.{Lists, signals}
 use Rattle.street.specs.Checks.{planChecks, orNext, faultAt}
@@ -20,7 +21,7 @@ use Rattle.street.specs.declared.Code.the-variants.{Offset}
 use Rattle.street.specs.declared.Verdict.the-variants.{Passed}
 use Rattle.street.proofs.Passed.{enough-room}
 use Rattle.plans.specs.Equal.{equalOffset}
-use Rattle.bands.specs.Measure.{badOffset, offsetCheck, measureChecks, measuredOf, foundOr}
+use Rattle.bands.specs.Measure.{badOffset, offsetCheck, measureChecks, measuredOf, foundOr, measurementOf, numbersOf}
 use Rattle.bands.proofs.CheckLaws.{checks-full}
 use Rattle.promises.specs.Rounded.{planOffsets, OwnMeasure}
 use Rattle.promises.proofs.Streets.{fit}
@@ -47,35 +48,27 @@ module _ (l : Lists) (room : ℕ) (passed : planChecks l room ≡ Passed) where
       checks-full l (planOffsets l) (length-listBelow (signals l) (equalOffset (timed l)))
       ∙ ap₂ orNext (enough-room l room (signals l) passed (omega arith)) in-cycle
 
-  -- only the offsets of the signals enter
-  same-outbound : Alike (outboundWay (timed l) (λ j. getD (planOffsets l) j 0)) (outboundWay (timed l) (equalOffset (timed l)))
-  same-outbound =
+  -- only the offsets of the signals enter, in either direction
+  same-way : {lag : ℕ → ℕ} → Alike (along (outboundWay (timed l) (λ j. getD (planOffsets l) j 0)) lag) (along (outboundWay (timed l) (equalOffset (timed l))) lag)
+  same-way {lag} =
       record {
         around = refl;
         signals = refl;
         length = λ j h. refl;
-        past = λ x j h. ap (λ (f : ℕ). man (halves (timed l)) (pos (x + 2 * timed l .outbound j) -ℤ pos (redStart (timed l) j f))) (written l j h);
-      }
-
-  same-inbound : Alike (inboundWay (timed l) (λ j. getD (planOffsets l) j 0)) (inboundWay (timed l) (equalOffset (timed l)))
-  same-inbound =
-      record {
-        around = refl;
-        signals = refl;
-        length = λ j h. refl;
-        past = λ x j h. ap (λ (f : ℕ). man (halves (timed l)) (pos (x + inboundWay (timed l) (equalOffset (timed l)) .lag j) -ℤ pos (redStart (timed l) j f))) (written l j h);
+        past = λ x j h. ap (λ (f : ℕ). man (halves (timed l)) (pos (x + lag j) -ℤ pos (redStart (timed l) j f))) (written l j h);
       }
 
 pub own-measure : OwnMeasure
 own-measure l room passed =
     let s = timed l in
     let out = outboundWay s (λ j. getD (planOffsets l) j 0) in
-    let back = inboundWay s (λ j. getD (planOffsets l) j 0) in (
-      bandStart out,
-      bandStart back,
-      ap (λ v. foundOr v (measuredOf s (planOffsets l))) (accepted l room passed)
-          ∙ ap₂
-          (λ (a b : ℕ). foundOr Passed (record { outbound = record { width = a; start = bandStart out }; inbound = record { width = b; start = bandStart back } }))
-          (width-alike out (outboundWay s (equalOffset s)) (same-outbound l room passed) ∙ measured l room passed .0)
-          (width-alike back (inboundWay s (equalOffset s)) (same-inbound l room passed) ∙ measured l room passed .1),
+    let back = inboundWay s (λ j. getD (planOffsets l) j 0) in
+    let found : numbersOf (measurementOf l (planOffsets l)) ≡ numbersOf (foundOr Passed (measuredOf s (planOffsets l))) = ap (λ v. numbersOf (foundOr v (measuredOf s (planOffsets l)))) (accepted l room passed) in (
+      ap (λ n. n .code) found,
+      ap (λ n. n .outbound .width) found
+          ∙ width-alike out (outboundWay s (equalOffset s)) (same-way l room passed)
+          ∙ measured l room passed .0,
+      ap (λ n. n .inbound .width) found
+          ∙ width-alike back (inboundWay s (equalOffset s)) (same-way l room passed)
+          ∙ measured l room passed .1,
     )

@@ -51,7 +51,7 @@ module _ (s : Timed) (ok : Fit s) (red : Stops s) (rise : Rising s) where
       (named-least s ok red f c (redEnd s c (f c)) 0 (outboundWidth shift s) (named .out), named-least s ok red f c (redStart s c (f c)) v′ v′ (named .back))
 
   -- two reported widths that are both above 0 make up 2B
-  sums : (shift : Shift) → InRange s shift → 1 ≤ outboundWidth shift s → 1 ≤ inboundWidth shift s → outboundWidth shift s + inboundWidth shift s + 2 * halves s ≡ 2 * B⁺ s
+  pub sums : (shift : Shift) → InRange s shift → 1 ≤ outboundWidth shift s → 1 ≤ inboundWidth shift s → outboundWidth shift s + inboundWidth shift s + 2 * halves s ≡ 2 * B⁺ s
   sums Unmoved range p q = omega (arith, equal-width s ok)
   sums (Outbound w) range p q = omega (arith, other-width s ok w)
   sums (Inbound w) range p q = omega (arith, other-width s ok w)

@@ -22,10 +22,11 @@ use Rattle.street.specs.declared.Verdict.the-variants.{Passed, Refused}
 use Rattle.street.proofs.CheckLaws.{passes}
 use Rattle.street.proofs.Passed.{first-passed, rest-passed}
 use Rattle.plans.specs.Answers.{numbersOf, answered}
-use Rattle.plans.specs.Equal.{equalOffset, equalPlan, written}
+use Rattle.plans.specs.Equal.{equalOffset, equalPlan, written, Equal}
 use Rattle.plans.specs.Moved.{shiftOf, movedOffset, movedPlan, outboundWidth, inboundWidth}
-use Rattle.plans.specs.Requests.{widthCheck, requestCheck, requestChecks}
+use Rattle.plans.specs.Requests.{widthCheck, requestCheck, requestChecks, Requested}
 use Rattle.plans.specs.declared.Plan.{Plan}
+use Rattle.plans.specs.declared.Answer.{Answer}
 use Rattle.plans.specs.declared.widths.Request.{Request}
 use Rattle.plans.specs.declared.widths.Request.the-variants as request
 use Rattle.plans.specs.declared.widths.Shift.{Shift}
@@ -86,17 +87,35 @@ replied : (v : Verdict) (p : Plan) → v ≡ Passed → numbersOf (answered v p)
 replied Passed p e = refl
 replied (Refused f) p e = let z : _≡_ {A = ℕ} 0 1 = cc in absurd (omega arith)
 
+-- so what a reply with code 0 and the lent list say: the checks passed, and numbers and offsets are those of a plan
+pub record Told (l : Lists) (room : ℕ) (plan : Plan) (f : ℕ → ℕ) (exit : List ℕ) (r : Answer) : Type 0 where
+  pub passed : planChecks l room ≡ Passed
+  pub numbers : plan ≡ numbersOf r .plan
+  pub same : (j : ℕ) → j < signals l → getD exit j 0 ≡ f j
+
+pub equal-told : (l : Lists) (entry exit : List ℕ) (r : Answer) → Equal l entry exit r → numbersOf r .code ≡ 0 → Told l (length entry) (equalPlan (timed l) (m l)) (equalOffset (timed l)) exit r
+equal-told l entry exit r call code =
+    let v = planChecks l (length entry) in
+    let plan = equalPlan (timed l) (m l) in
+    let passed = planned v plan (ap (λ a. numbersOf a .code) (sym (call .reply)) ∙ code) in
+    record {
+      passed = passed;
+      numbers = sym (ap (λ a. numbersOf a .plan) (call .reply) ∙ replied v plan passed);
+      same = λ j h. ap (λ (x : List ℕ). getD x j 0) (call .after) ∙ left v (signals l) (equalOffset (timed l)) entry passed j h;
+    }
+
+-- the reference counted from 0 is one less than the reply's
+pub counted : (c : ℕ) → c ≡ c + 1 - 1
+counted c = omega arith
+
 pub reply-keeps : ReplyKeeps
 unfolding Kept
 reply-keeps l entry exit r N call code fine =
     let s = timed l in
-    let room = length entry in
-    let passed = planned (planChecks l room) (equalPlan s (m l)) (ap (λ a. numbersOf a .code) (sym (call .reply)) ∙ code) in
-    let numbers : equalPlan s (m l) ≡ numbersOf r .plan = sym (ap (λ a. numbersOf a .plan) (call .reply) ∙ replied (planChecks l room) (equalPlan s (m l)) passed) in
-    let same : (j : ℕ) → j < signals l → getD exit j 0 ≡ equalOffset s j = λ j h. ap (λ (x : List ℕ). getD x j 0) (call .after) ∙ left (planChecks l room) (signals l) (equalOffset s) entry passed j h in
-    let at-c : reference s ≡ reference s + 1 - 1 = omega arith in
-    subst (λ p. Kept l N (λ j. getD exit j 0) (p .reference - 1) p) numbers
-    (subst (λ (c : ℕ). Kept l N (λ j. getD exit j 0) c (equalPlan s (m l))) at-c (keeps l room N (λ j. getD exit j 0) passed fine same))
+    let told = equal-told l entry exit r call code in
+    let f : ℕ → ℕ = λ j. getD exit j 0 in
+    subst (λ p. Kept l N f (p .reference - 1) p) (told .numbers)
+    (subst (λ (c : ℕ). Kept l N f c (equalPlan s (m l))) (counted (reference s)) (keeps l (length entry) N f (told .passed) fine (told .same)))
 
 -- a request that passed its check comes to a shift in range
 width-passed : (s : Timed) (w : ℕ) → widthCheck s w ≡ Passed → inRange s w ≡ true
@@ -108,6 +127,24 @@ in-range request.Equal l room passed e = tt
 in-range (request.Outbound w) l room passed e = width-passed (timed l) w e
 in-range (request.Inbound w) l room passed e = width-passed (timed l) w e
 in-range (request.Platoons P Q) l room passed e = platoons-in-range l room passed P Q
+
+pub request-told : (asked : Request) (l : Lists) (entry exit : List ℕ) (r : Answer) → Requested asked l entry exit r → numbersOf r .code ≡ 0 → Told l (length entry) (movedPlan (shiftOf asked (timed l)) (timed l) (m l)) (movedOffset (shiftOf asked (timed l)) (timed l)) exit r × InRange (timed l) (shiftOf asked (timed l))
+request-told asked l entry exit r call code =
+    let s = timed l in
+    let room = length entry in
+    let shift = shiftOf asked s in
+    let plan = movedPlan shift s (m l) in
+    let v = requestChecks asked l room in
+    let all : v ≡ Passed = planned v plan (ap (λ a. numbersOf a .code) (sym (call .reply)) ∙ code) in
+    let passed = first-passed (planChecks l room) (orNext (requestCheck asked s) Passed) all in
+    let asks = rest-passed (planChecks l room) (orNext (requestCheck asked s) Passed) all in (
+      record {
+        passed = passed;
+        numbers = sym (ap (λ a. numbersOf a .plan) (call .reply) ∙ replied v plan all);
+        same = λ j h. ap (λ (x : List ℕ). getD x j 0) (call .after) ∙ left v (signals l) (movedOffset shift s) entry all j h;
+      },
+      in-range asked l room passed (first-passed (requestCheck asked s) Passed asks),
+    )
 
 -- where no time was rounded no offsets do better than such a shift
 none-better : (shift : Shift) (l : Lists) (room N : ℕ) → planChecks l room ≡ Passed → Fine l N → InRange (timed l) shift → m l ≡ 0 → NoneBetter shift l N (outboundWidth shift (timed l)) (inboundWidth shift (timed l))
@@ -137,16 +174,8 @@ pub request-keeps : RequestKeeps
 unfolding Carried
 request-keeps asked l entry exit r N call code fine =
     let s = timed l in
-    let room = length entry in
     let shift = shiftOf asked s in
-    let plan = movedPlan shift s (m l) in
-    let v = requestChecks asked l room in
+    let (told, range) = request-told asked l entry exit r call code in
     let g : ℕ → ℕ = λ j. getD exit j 0 in
-    let all : v ≡ Passed = planned v plan (ap (λ a. numbersOf a .code) (sym (call .reply)) ∙ code) in
-    let passed = first-passed (planChecks l room) (orNext (requestCheck asked s) Passed) all in
-    let asks = rest-passed (planChecks l room) (orNext (requestCheck asked s) Passed) all in
-    let range = in-range asked l room passed (first-passed (requestCheck asked s) Passed asks) in
-    let numbers : plan ≡ numbersOf r .plan = sym (ap (λ a. numbersOf a .plan) (call .reply) ∙ replied v plan all) in
-    let same : (j : ℕ) → j < signals l → g j ≡ movedOffset shift s j = λ j h. ap (λ (x : List ℕ). getD x j 0) (call .after) ∙ left v (signals l) (movedOffset shift s) entry all j h in
-    let at-c : reference s ≡ reference s + 1 - 1 = omega arith in
-    subst (λ p. Carried shift l N g (p .reference - 1) p) numbers (subst (λ (c : ℕ). Carried shift l N g c plan) at-c (carried shift l room N g passed fine range same))
+    subst (λ p. Carried shift l N g (p .reference - 1) p) (told .numbers)
+    (subst (λ (c : ℕ). Carried shift l N g c (movedPlan shift s (m l))) (counted (reference s)) (carried shift l (length entry) N g (told .passed) fine range (told .same)))

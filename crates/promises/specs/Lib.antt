@@ -3,3 +3,4 @@ pub mod Exact
 pub mod Rounding
 pub mod Tight
 pub mod Moved
+pub mod Replies

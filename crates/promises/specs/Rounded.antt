@@ -1,5 +1,5 @@
--- What is promised of the equal plan at rounded times (01, 'Red, departure, band' and 'The equal plan'). Each statement is over the numbers of a street as typed, and asks only that
--- the checks of a plan find no fault in them.
+-- What is promised of the equal plan at rounded times (01, 'Red, departure, band' and 'The equal plan'). Most statements are over a street's times; `OnStreets` makes each one about
+-- the numbers of a street as typed, and asks only that the checks of a plan find no fault in them.
 use Prim.Native.Nat.{ℕ, _+_, _-_, _*_, _≤_, _<_, min}
 use mathlib.Core.Path.{_≡_}
 use mathlib.Core.Bool.{true}
@@ -16,8 +16,7 @@ use Rattle.street.specs.Checks.{planChecks}
 use Rattle.street.specs.Times.{timed, linkTicks}
 use Rattle.street.specs.declared.Verdict.the-variants.{Passed}
 use Rattle.plans.specs.Equal.{equalOffset}
-use Rattle.bands.specs.Measure.{measurementOf}
-use Rattle.bands.specs.declared.Measurement.the-variants.{Found}
+use Rattle.bands.specs.Measure.{measurementOf, numbersOf}
 
 -- a property of every street that the checks pass
 abbrev pub OnStreets : (Timed → Type 0) → Type 0
@@ -41,7 +40,10 @@ TogetherTwiceB s =
 -- under offsets of the method's form against any signal c, with any phases of 0 and C, the two directions have bands of the same width
 abbrev pub Mirrored : Timed → Type 0
 Mirrored s =
-    (c : ℕ) (e f : ℕ → ℕ) → ((j : ℕ) → j < s .signals → (e j ≡ 0) ⊎ (e j ≡ s .cycle)) → ((j : ℕ) → j < s .signals → f j ≡ man (halves s) (t s c j +ℤ t′ s c j +ℤ pos (e j))) → width (outboundWay s f) ≡ width (inboundWay s f)
+    (c : ℕ) (e f : ℕ → ℕ) →
+    ((j : ℕ) → j < s .signals → (e j ≡ 0) ⊎ (e j ≡ s .cycle)) →
+    ((j : ℕ) → j < s .signals → f j ≡ man (halves s) (t s c j +ℤ t′ s c j +ℤ pos (e j))) →
+    width (outboundWay s f) ≡ width (inboundWay s f)
 
 -- how far behind an instant at the signal c the departure x comes by there, round the cycle
 abbrev pub behind : Way → ℕ → ℕ → ℕ → ℕ
@@ -79,7 +81,11 @@ SignedTimes =
 abbrev pub planOffsets : Lists → List ℕ
 planOffsets l = listBelow (signals l) (equalOffset (timed l))
 
--- `measure` takes a plan's own offsets and answers the reported widths
+-- `measure` takes the equal plan's own offsets and answers the reported widths
 abbrev pub OwnMeasure : Type 0
 OwnMeasure =
-    (l : Lists) (room : ℕ) → planChecks l room ≡ Passed → (starts ends : ℕ) × (measurementOf l (planOffsets l) ≡ Found (record { outbound = record { width = equalWidth (timed l); start = starts }; inbound = record { width = equalWidth (timed l); start = ends } }))
+    (l : Lists) (room : ℕ) → planChecks l room ≡ Passed →
+    let found = numbersOf (measurementOf l (planOffsets l)) in
+    (found .code ≡ 0)
+    × (found .outbound .width ≡ equalWidth (timed l))
+    × (found .inbound .width ≡ equalWidth (timed l))

@@ -4,7 +4,7 @@ use mathlib.Core.Bool.{cond}
 use mathlib.Core.List.{List, [], _∷_, _++_}
 use lib.Dec.{ltb}
 
--- the last k digits of a number at most, without leading zeros: byte 48 is the digit 0
+-- the digits of a number that has at most k of them, and of a longer one its last k: byte 48 is the digit 0
 unfoldable pub digitsUpTo : ℕ → ℕ → List ℕ
 digitsUpTo zero x = []
 digitsUpTo (suc k) x = cond (ltb x 10) ((48 + x) ∷ []) (digitsUpTo k (x / 10) ++ ((48 + x % 10) ∷ []))

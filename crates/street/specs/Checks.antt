@@ -25,15 +25,17 @@ abbrev pub faultAt : Code → Found → Verdict
 faultAt code nowhere = Passed
 faultAt code (at i) = refuse code (i + 1)
 
--- a call's refusal is the first fault in its list of checks
+-- a check's refusal, or else what the next comes to
 abbrev pub orNext : Verdict → Verdict → Verdict
 orNext Passed next = next
 orNext (Refused f) next = Refused f
 
+-- a call's refusal is the first fault in its list of checks
 abbrev pub firstFault : List Verdict → Verdict
 firstFault [] = Passed
 firstFault (v ∷ vs) = orNext v (firstFault vs)
 
+-- both tests, and either
 abbrev pub _and_ : Bool → Bool → Bool
 p and q = cond p q false
 

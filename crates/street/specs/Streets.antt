@@ -61,7 +61,7 @@ timedStreet s =
       inbound = λ j. getD (s .inbound) j 0;
     }
 
--- what holds of every street whose checks passed, and what the search builds on
+-- what holds of every street whose checks passed, and what the search builds on; 6,200,031 ticks are 31 links of at most 200,001
 pub record Sound (s : Street) : Type 0 where
   pub some : minSignals ≤ s .signals
   pub few : s .signals ≤ maxSignals

@@ -51,7 +51,7 @@ timed l =
       inbound = timeTo (l .distances) (l .inbound);
     }
 
--- distances and one direction's speeds that have passed the checks: one distance more than speeds, each above the one before, and all in range
+-- distances and one direction's speeds that have passed the checks: one distance more than speeds, none below the one before, none after the first too great, and all speeds in range
 pub record Driveable (distances speeds : List ℕ) : Type 0 where
   pub ends : length distances ≡ length speeds + 1
   pub few : length distances ≤ maxSignals

@@ -1,4 +1,4 @@
--- `main` meets its contract: the printed text lies within its buffer, and the bytes that go out are the text that answers the bytes that came in. Assumes nothing beyond what the
+-- `main` meets its contract: the printed text lies within its buffer, and the bytes that go out are the text that answers the bytes beside them. Assumes nothing beyond what the
 -- libraries assume of reading and writing.
 use borrow.Author.Needs.{needs}
 use Rattle.printed.proofs.Ways.{text-within, text-count, text-is}
