@@ -18,13 +18,13 @@ use Rattle.circle.proofs.Man.{man-lt, man-is, man-turns}
 use Rattle.circle.proofs.Over.{minBelow, min-more}
 use Rattle.circle.proofs.Arcs.{since}
 use Rattle.circle.proofs.Stretches.{Proper}
-use Rattle.circle.proofs.Longest.{left, endAt, since-end}
+use Rattle.circle.proofs.Longest.{longest, left, endAt, since-end}
 use Rattle.circle.proofs.Candidates.{from, Best, best-wider, best-sooner, best-stays, best-band}
 use Rattle.circle.proofs.Alike.{past, Alike, width-alike, start-alike}
 use Rattle.street.specs.Streets.{timedStreet, Sound}
 use Rattle.street.specs.declared.Street.{Street}
 use Rattle.bands.specs.declared.Band.{Band}
-use Rattle.bands.specs.Search.{seen, leftBy, widerOf}
+use Rattle.bands.specs.Search.{OnCycle, Fitting, seenBy, seen, leftBy, widerOf}
 use Rattle.bands.specs.Measure.{bandOf}
 
 -- the wider of two bands, from the code's tests
@@ -56,7 +56,7 @@ pub wider-still : (a b : Band) → b .width ≤ a .width → a .width ≤ b .wid
 wider-still a b le ge l = wider-start a b false (omega arith) (le-ltb (b .start) (a .start) l)
 
 -- the best of some candidates, and one more
-pub best-more : (w : Way) (i : ℕ) (a b : Band) → Best w i (a .width) (a .start) → b .width ≡ from w i → b .start ≡ endAt w i → Best w (i + 1) (widerOf a b .width) (widerOf a b .start)
+best-more : (w : Way) (i : ℕ) (a b : Band) → Best w i (a .width) (a .start) → b .width ≡ from w i → b .start ≡ endAt w i → Best w (i + 1) (widerOf a b .width) (widerOf a b .start)
 best-more w i a b best wide starts = go (decLt (a .width) (b .width)) (decLt (b .width) (a .width)) (decLt (b .start) (a .start))
   where
     kept : (c : Band) → c ≡ widerOf a b → Best w (i + 1) (c .width) (c .start) → Best w (i + 1) (widerOf a b .width) (widerOf a b .start)
@@ -86,37 +86,52 @@ least-lower top n g low new e f l = omega (arith, min-more top n g)
 pub least-still : (top n : ℕ) (g : ℕ → ℕ) (low new : ℕ) → low ≡ minBelow top n g → new ≡ g n → low ≤ new → low ≡ minBelow top (n + 1) g
 least-still top n g low new e f l = omega (arith, min-more top n g)
 
-module _ (s : Street) (ok : Sound s) (ends : List ℕ) where
-  pub proper-seen : Proper (seen (timedStreet s) ends)
-  proper-seen = record { turns = omega (arith, ok .shortest); fits = λ j l. omega (arith, ok .goes j l) }
+module _ (h n : ℕ) (red : ℕ → ℕ) (ends : List ℕ) (ok : Fitting h n red ends) where
+  pub proper-seen : Proper (seenBy h n red ends)
+  proper-seen = record { turns = ok .turns; fits = λ j l. omega (arith, ok .goes j l) }
 
   -- the candidates are the given instants
-  pub end-seen : (j : ℕ) → getD ends j 0 < halves (timedStreet s) → endAt (seen (timedStreet s) ends) j ≡ getD ends j 0
+  end-seen : (j : ℕ) → j < n → endAt (seenBy h n red ends) j ≡ getD ends j 0
   end-seen j l =
-      let H = halves (timedStreet s) in
-      let r : ℕ = 2 * getD (s .reds) j 0 in
-      let c = man-turns H (getD ends j 0) r (proper-seen .turns) in
-      man-is H (man H (pos (getD ends j 0) -ℤ pos r) + r) 0 (getD ends j 0) l
+      let r : ℕ = 2 * red j in
+      let c = man-turns h (getD ends j 0) r (ok .turns) in
+      man-is h (man h (pos (getD ends j 0) -ℤ pos r) + r) 0 (getD ends j 0) (ok .each j l)
       (record { p = c .q; q = c .p; eq = omega (arith, c .eq) })
 
   -- what a red leaves is what the code computes
-  pub left-seen : (x j : ℕ) → j < s .signals → getD ends j 0 < halves (timedStreet s) → leftBy (halves (timedStreet s)) x (getD ends j 0) (getD (s .reds) j 0) ≡ left (seen (timedStreet s) ends) x j
-  left-seen x j lj l =
-      let w = seen (timedStreet s) ends in
-      let H = halves (timedStreet s) in
-      let red : 0 < w .length j = omega (arith, ok .stops j lj) in
-      let is : since w x j ≡ man H (pos x -ℤ pos (getD ends j 0)) =
-      since-end w proper-seen x j ∙ ap (λ (e : ℕ). man H (pos x -ℤ pos e)) (end-seen j l) in
-      ap (λ (z : ℕ). H - (w .length j + z)) (sym is)
-      ∙ sym (ap (λ t. cond t (H - (w .length j + since w x j)) H) (lt-ltb 0 (w .length j) red))
+  pub left-seen : (x j : ℕ) → j < n → leftBy h x (getD ends j 0) (red j) ≡ left (seenBy h n red ends) x j
+  left-seen x j l =
+      let w = seenBy h n red ends in
+      let some : 0 < w .length j = omega (arith, ok .stops j l) in
+      let is : since w x j ≡ man h (pos x -ℤ pos (getD ends j 0)) =
+      since-end w proper-seen x j ∙ ap (λ (e : ℕ). man h (pos x -ℤ pos e)) (end-seen j l) in
+      ap (λ (z : ℕ). h - (w .length j + z)) (sym is)
+      ∙ sym (ap (λ t. cond t (h - (w .length j + since w x j)) h) (lt-ltb 0 (w .length j) some))
+
+  -- the best of the candidates before i, and the stretch from the instant at i
+  pub more-seen : (i v : ℕ) (a b : Band) → i < n → Best (seenBy h n red ends) i (a .width) (a .start) → v ≡ longest (seenBy h n red ends) (getD ends i 0) → b ≡ widerOf a (record { width = v; start = getD ends i 0 }) → Best (seenBy h n red ends) (i + 1) (b .width) (b .start)
+  more-seen i v a b l best wide is =
+      let w = seenBy h n red ends in
+      let at = sym (end-seen i l) in
+      subst (λ (x : Band). Best w (i + 1) (x .width) (x .start)) (sym is)
+      (best-more w i a (record { width = v; start = getD ends i 0 }) best (wide ∙ ap (longest w) at) at)
 
   -- the best of all candidates is the band
-  pub best-seen : (b : Band) → Best (seen (timedStreet s) ends) (s .signals) (b .width) (b .start) → b ≡ bandOf (seen (timedStreet s) ends)
-  best-seen b best =
-      let w = seen (timedStreet s) ends in
-      let some : 0 < s .signals = omega (arith, ok .some) in
+  pub best-seen : (b : Band) → 0 < n → Best (seenBy h n red ends) n (b .width) (b .start) → b ≡ bandOf (seenBy h n red ends)
+  best-seen b some best =
+      let w = seenBy h n red ends in
       let is = best-band w proper-seen 0 some (omega (arith, ok .stops 0 some)) (b .width) (b .start) best in
       λ i. record { width = is .wide i; start = is .starts i }
+
+-- a sound street's reds fit its cycle
+pub fitting : (s : Street) (ends : List ℕ) → Sound s → OnCycle s ends → Fitting (halves (timedStreet s)) (s .signals) (timedStreet s .red) ends
+fitting s ends ok on =
+    record {
+      turns = omega (arith, ok .shortest);
+      stops = λ j l. omega (arith, ok .stops j l);
+      goes = λ j l. omega (arith, ok .goes j l);
+      each = on .each;
+    }
 
 -- a street seen from the departure, and the way itself: the same departures are clear
 pub seen-alike : (s : Timed) (offsets ends : List ℕ) (lag : ℕ → ℕ) → 0 < s .cycle → ((j : ℕ) → j < s .signals → getD ends j 0 ≡ man (halves s) (pos (getD offsets j 0 + s .red j) -ℤ pos (lag j))) → Alike (seen s ends) (record { around = halves s; signals = s .signals; start = λ j. redStart s j (getD offsets j 0); length = λ j. 2 * s .red j; lag = lag })

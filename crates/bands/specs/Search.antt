@@ -15,10 +15,14 @@ use Rattle.bands.specs.declared.Band.{Band}
 use Rattle.bands.specs.declared.Direction.{Direction}
 use Rattle.bands.specs.declared.Direction.the-variants.{Outbound, Inbound}
 
--- how long after its departure a car is at signal j, in halves (01, 'Red, departure, band')
+-- how long after its departure a car is at a signal, in halves, from the signal's travel times and the last signal's inbound one (01, 'Red, departure, band')
+abbrev pub lagBy : Direction → ℕ → ℕ → ℕ → ℕ
+lagBy Outbound out back last = 2 * out
+lagBy Inbound out back last = 2 * (last - back)
+
+-- the same at signal j of a street (01, 'Red, departure, band')
 abbrev pub lagOf : Direction → Timed → ℕ → ℕ
-lagOf Outbound s j = 2 * s .outbound j
-lagOf Inbound s j = 2 * (s .inbound (s .signals - 1) - s .inbound j)
+lagOf direction s j = lagBy direction (s .outbound j) (s .inbound j) (s .inbound (s .signals - 1))
 
 -- the instant, at the departure signal, of the car that comes to signal j as its red ends: the red's end is the offset and the red together (01, 'Red, departure, band')
 abbrev pub endOf : Direction → Timed → List ℕ → ℕ → ℕ
@@ -37,16 +41,27 @@ pub record Placed (s : Street) (offsets : List ℕ) : Type 0 where
 pub record OnCycle (s : Street) (ends : List ℕ) : Type 0 where
   pub each : (j : ℕ) → j < s .signals → getD ends j 0 < halves (timedStreet s)
 
--- the way of a street whose reds, seen from where a car departs, end at given instants: seen from there every lag is 0 (01, 'Red, departure, band')
-abbrev pub seen : Timed → List ℕ → Way
-seen s ends =
+-- at each of n signals a red that takes some of a cycle of h halves and not all of it, and an instant on the cycle at which it ends (01, 'Units and the street')
+pub record Fitting (h n : ℕ) (red : ℕ → ℕ) (ends : List ℕ) : Type 0 where
+  pub turns : 0 < h
+  pub stops : (j : ℕ) → j < n → 0 < red j
+  pub goes : (j : ℕ) → j < n → 2 * red j < h
+  pub each : (j : ℕ) → j < n → getD ends j 0 < h
+
+-- the way through n signals on a cycle of h halves whose reds, seen from where a car departs, end at given instants: seen from there every lag is 0 (01, 'Red, departure, band')
+abbrev pub seenBy : ℕ → ℕ → (ℕ → ℕ) → List ℕ → Way
+seenBy h n red ends =
     record {
-      around = halves s;
-      signals = s .signals;
-      start = λ j. man (halves s) (pos (getD ends j 0) -ℤ pos (2 * s .red j));
-      length = λ j. 2 * s .red j;
+      around = h;
+      signals = n;
+      start = λ j. man h (pos (getD ends j 0) -ℤ pos (2 * red j));
+      length = λ j. 2 * red j;
       lag = λ j. 0;
     }
+
+-- the same for a street (01, 'Red, departure, band')
+abbrev pub seen : Timed → List ℕ → Way
+seen s ends = seenBy (halves s) (s .signals) (s .red) ends
 
 -- what a red that ends at an instant leaves of the cycle for a stretch from x on, all but the red and the time since it ended (01, 'Red, departure, band')
 abbrev pub leftBy : ℕ → ℕ → ℕ → ℕ → ℕ

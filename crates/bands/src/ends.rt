@@ -3,21 +3,19 @@
 use crate::Direction;
 use street::Street;
 ghost use mathlib.Core.Path.{_≡_};
-ghost use Prim.Native.Nat.{_<_};
+ghost use Prim.Native.Nat.{_≤_};
 ghost use Rattle.street.specs.Streets.{padded, timedStreet, Sound};
-ghost use Rattle.bands.specs.Search.{lagOf, endOf, Onward, Placed};
+ghost use Rattle.bands.specs.Search.{lagBy, endOf, Onward, Placed};
 
-// How long after its departure a car is at signal j, in halves. Outbound it departs at signal 1, inbound at signal n.
-fn lag(s: Street, direction: Direction, j: usize) -> u32
-    requires { ⌜ Sound s × Onward s × (j < s .signals) ⌝ }
-    ensures { λ r. ⌜ r ≡ lagOf direction (timedStreet s) j ⌝ }
+// How long after its departure a car is at a signal, in halves. Outbound it departs at signal 1, inbound at signal n, whose inbound
+// time is `last`.
+fn lag(direction: Direction, out: u32, back: u32, last: u32) -> u32
+    requires { ⌜ (out ≤ 6200031) × (back ≤ last) × (last ≤ 6200031) ⌝ }
+    ensures { λ r. ⌜ r ≡ lagBy direction out back last ⌝ }
 {
     match direction {
-        Direction::Outbound => 2 * s.outbound[j],
-        Direction::Inbound => {
-            let last = s.signals - 1;
-            2 * (s.inbound[last] - s.inbound[j])
-        }
+        Direction::Outbound => 2 * out,
+        Direction::Inbound => 2 * (last - back),
     }
 }
 
@@ -28,10 +26,12 @@ pub fn ends(s: Street, offsets: &[u32], direction: Direction) -> [u32; 32]
 {
     let n = s.signals;
     let h = 2 * s.cycle;
+    let last = s.inbound[n - 1];
     let mut all = [0u32; 32];
     let mut j: usize = 0;
     while j < n {
-        all[j] = circle::remainder(h, offsets[j] + s.reds[j], lag(s, direction, j));
+        let after = lag(direction, s.outbound[j], s.inbound[j], last);
+        all[j] = circle::remainder(h, offsets[j] + s.reds[j], after);
         j += 1;
     }
     all

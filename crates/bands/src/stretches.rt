@@ -4,9 +4,10 @@ use crate::Band;
 use street::Street;
 ghost use mathlib.Core.Path.{_≡_};
 ghost use Prim.Native.Nat.{_≤_, _<_};
-ghost use Rattle.circle.specs.Method.{halves};
+ghost use lib.ListN.{getD};
+ghost use Rattle.street.specs.Limits.{maxSignals};
 ghost use Rattle.street.specs.Streets.{timedStreet, Sound};
-ghost use Rattle.bands.specs.Search.{seen, OnCycle, longestFrom, leftBy, widerOf};
+ghost use Rattle.bands.specs.Search.{seen, seenBy, Fitting, OnCycle, longestFrom, leftBy, widerOf};
 ghost use Rattle.bands.specs.Measure.{bandOf};
 
 // What a red leaves of the cycle for a stretch from x on.
@@ -21,17 +22,15 @@ fn left(h: u32, x: u32, end: u32, red: u32) -> u32
     h - gone
 }
 
-// The longest stretch from x: the least that any red leaves.
-fn longest(s: Street, ends: [u32; 32], x: u32) -> u32
-    requires { ⌜ Sound s × OnCycle s ends × (x < halves (timedStreet s)) ⌝ }
-    ensures { λ r. ⌜ r ≡ longestFrom (seen (timedStreet s) ends) x ⌝ }
+// The longest stretch from x: the least that any red leaves. The arrays are lent, since one call for each start would copy them.
+fn longest(h: u32, n: usize, reds: &[u32; 32], ends: &[u32; 32], x: u32) -> u32
+    requires { ⌜ (h ≤ 12000) × (n ≤ maxSignals) × Fitting h n (λ j. getD (now reds) j 0) (now ends) × (x < h) ⌝ }
+    ensures { λ r. ⌜ r ≡ longestFrom (seenBy h n (λ j. getD (now (reds .entry)) j 0) (now (ends .entry))) x ⌝ }
 {
-    let n = s.signals;
-    let h = 2 * s.cycle;
     let mut least = h;
     let mut j: usize = 0;
     while j < n {
-        let room = left(h, x, ends[j], s.reds[j]);
+        let room = left(h, x, ends[j], reds[j]);
         if room < least {
             least = room;
         }
@@ -62,11 +61,13 @@ pub fn band(s: Street, ends: [u32; 32]) -> Band
     ensures { λ r. ⌜ r ≡ bandOf (seen (timedStreet s) ends) ⌝ }
 {
     let n = s.signals;
+    let h = 2 * s.cycle;
+    let reds = s.reds;
     let mut best = Band { width: 0, start: 0 };
     let mut i: usize = 0;
     while i < n {
         let start = ends[i];
-        let width = longest(s, ends, start);
+        let width = longest(h, n, &reds, &ends, start);
         best = wider(best, Band { width, start });
         i += 1;
     }

@@ -17,17 +17,44 @@ use Rattle.bands.proofs.ends.ends.Statement.{statement}
 use Rattle.bands.proofs.ends.ends.Tie as tie
 
 abbrev Inv-loop : tie.InvT-loop
-Inv-loop offsets direction s n h all₀ j₀ all j = (j ≤ s .signals) × (all ≡ listBelow j (endOf direction (timedStreet s) offsets) ++ drop j (replicate 32 0))
+Inv-loop offsets direction s n h last all₀ j₀ all j = (j ≤ s .signals) × (all ≡ listBelow j (endOf direction (timedStreet s) offsets) ++ drop j (replicate 32 0))
 
 abbrev μ-loop : tie.MeasureT-loop
-μ-loop offsets direction s n h all₀ j₀ all j = s .signals - j
+μ-loop offsets direction s n h last all₀ j₀ all j = s .signals - j
 
 mul-h : tie.Need-mul-h Inv-loop μ-loop
 mul-h c = search needs
 
+sub-last : tie.Need-sub-last Inv-loop μ-loop
+sub-last c = search needs
+
+mul-last : tie.Need-mul-last Inv-loop μ-loop
+mul-last c = search needs
+
+element-copy-out-last : tie.Need-element-copy-out-last Inv-loop μ-loop
+element-copy-out-last c = search needs
+
 loop-holds : tie.Need-loop-holds Inv-loop μ-loop
 unfolding listBelow
 loop-holds c = (search needs, refl)
+
+mul-lag : tie.Need-mul-lag Inv-loop μ-loop
+mul-lag c = search needs
+
+element-copy-out-lag : tie.Need-element-copy-out-lag Inv-loop μ-loop
+element-copy-out-lag c = search needs
+
+mul-lag-2 : tie.Need-mul-lag-2 Inv-loop μ-loop
+mul-lag-2 c = search needs
+
+element-copy-out-lag-2 : tie.Need-element-copy-out-lag-2 Inv-loop μ-loop
+element-copy-out-lag-2 c = search needs
+
+lag-requires : tie.Need-lag-requires Inv-loop μ-loop
+lag-requires c κs =
+    let c0 = c .before .before .before .before .before .before in
+    let j = c .before .before .before .loop .j in
+    (c0 .pre .0 .out j (omega arith), c0 .pre .1 .each j (omega arith), c0 .pre .0 .back (c0 .args .t1 .signals - 1) (omega (arith, c0 .pre .0 .some)))
 
 mul-remainder : tie.Need-mul-remainder Inv-loop μ-loop
 mul-remainder c = search needs
@@ -43,19 +70,14 @@ element-copy-out-remainder c = search needs
 
 add-remainder : tie.Need-add-remainder Inv-loop μ-loop
 add-remainder c =
-    let c0 = c .before .before .before .before .before in
-    let j = c .before .before .before .loop .j in
+    let c0 = c .before .before .before .before .before .before .before .before .before in
+    let j = c .before .before .before .before .before .before .loop .j in
     omega (arith, c0 .pre .2 .each j (omega arith), c0 .pre .0 .goes j (omega arith), c0 .pre .0 .longest)
-
-lag-requires : tie.Need-lag-requires Inv-loop μ-loop
-lag-requires c κs =
-    let c0 = c .before .before .before .before .before in
-    (c0 .pre .0, c0 .pre .1, c .before .before .loop-test .taken)
 
 remainder-requires : tie.Need-remainder-requires Inv-loop μ-loop
 remainder-requires c κs =
-    let c0 = c .before .before .before .before .before .before in
-    let j = c .before .before .before .before .loop .j in
+    let c0 = c .before .before .before .before .before .before .before .before .before in
+    let j = c .before .before .before .before .before .before .loop .j in
     omega (arith, c0 .pre .2 .each j (omega arith), c0 .pre .0 .goes j (omega arith), c0 .pre .0 .shortest, c0 .pre .0 .longest)
 
 mul-all : tie.Need-mul-all Inv-loop μ-loop
@@ -72,21 +94,21 @@ loop-less c = search needs
 
 loop-again : tie.Need-loop-again Inv-loop μ-loop
 loop-again c =
-    let c0 = c .before .before .before .before .before .before .before in
+    let c0 = c .before .before .before .before .before .before .before .before .before .before in
     let s = timedStreet (c0 .args .t1) in
     let offsets = c0 .args .offsets .now in
-    let j = c .before .before .before .before .before .loop .j in
-    let value = c .remainder .ensures ∙ ap (λ (k : ℕ). man (halves s) (pos (getD offsets j 0 + s .red j) -ℤ pos k)) (c .before .lag .ensures) in (
+    let j = c .before .before .before .before .before .before .before .loop .j in
+    let value = c .remainder .ensures ∙ ap (λ (k : ℕ). man (halves s) (pos (getD offsets j 0 + s .red j) -ℤ pos k)) (c .before .before .before .lag .ensures) in (
       omega arith,
-      fill-store (replicate 32 0) (c .before .before .before .before .before .loop .all) (endOf (c0 .args .direction) s offsets) j (c .remainder .result) 0
+      fill-store (replicate 32 0) (c .before .before .before .before .before .before .before .loop .all) (endOf (c0 .args .direction) s offsets) j (c .remainder .result) 0
           (omega (arith, c0 .pre .0 .few))
-          (c .before .before .before .before .before .loop .inv .1)
+          (c .before .before .before .before .before .before .before .loop .inv .1)
           value,
     )
 
 returns : tie.Need-returns Inv-loop μ-loop
 returns c =
-    let c0 = c .before .before .before in
+    let c0 = c .before .before .before .before in
     let all : c .before .loop .j ≡ c0 .args .t1 .signals = omega arith in
     c .before .loop .inv .1
     ∙ ap (λ (k : ℕ). listBelow k (endOf (c0 .args .direction) (timedStreet (c0 .args .t1)) (c0 .args .offsets .now)) ++ drop k (replicate 32 0)) all
@@ -98,13 +120,20 @@ ends-spec =
     Inv-loop
     μ-loop
     mul-h
+    sub-last
+    mul-last
+    element-copy-out-last
     loop-holds
+    mul-lag
+    element-copy-out-lag
+    mul-lag-2
+    element-copy-out-lag-2
+    lag-requires
     mul-remainder
     shared-slice-read-remainder
     mul-remainder-2
     element-copy-out-remainder
     add-remainder
-    lag-requires
     remainder-requires
     mul-all
     array-write-all
