@@ -39,7 +39,7 @@ fn bytes(shown: &str) -> Vec<u8> {
 }
 
 /// The words in code style of a line, each with a line end.
-fn coded(line: &str) -> String {
+pub fn coded(line: &str) -> String {
     line.split('`').skip(1).step_by(2).map(|word| format!("{word}\n")).collect()
 }
 
@@ -75,6 +75,12 @@ impl Page {
             rows.extend(below.map(|k| (k + 1, cells(lines[k]))));
         }
         rows
+    }
+
+    /// The lines of every table with this header row, as they stand.
+    pub fn lines(&self, header: &str) -> Vec<&str> {
+        let lines: Vec<&str> = self.text.lines().collect();
+        self.rows(header).into_iter().map(|(line, _)| lines[line - 1]).collect()
     }
 
     pub fn table(&self, header: &str) -> Vec<Vec<String>> {

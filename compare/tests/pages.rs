@@ -1,10 +1,10 @@
-//! docs/PAPER.md and docs/SHEETS.md: their sheets and requests through the programs, and their numbers worked out anew.
+//! docs/PAPER.md, docs/SHEETS.md and docs/EXAMPLES.md: their sheets and requests through the programs, and their numbers worked out anew.
 
 use compare::cases::{input, output};
 use compare::decimal::{decimal, digits, gain, nearest, number, seconds};
 use compare::equal::Plan;
 use compare::moved::Ask;
-use compare::page::{sheet, street, Page, Sample};
+use compare::page::{coded, sheet, street, Page, Sample};
 use compare::paper::{asked, conversions, euclid, measured, parts, quarter, sample, LINKS, PARTS, SIGNALS};
 use compare::printed::plan_prints;
 use compare::run::Program;
@@ -46,6 +46,29 @@ fn the_typists_sheets_get_what_the_page_says() {
         let answer = program.answer(&sheet).unwrap_or_else(|fault| panic!("{place}: {fault}"));
         assert_eq!(String::from_utf8_lossy(&answer), prints, "plan, on {place}");
     }
+}
+
+/// The rows of the examples' page: the request and the sheet as one case, and the reply.
+fn examples() -> Vec<(Vec<u8>, String)> {
+    let page = Page::open("EXAMPLES.md");
+    let example = |line: &str| {
+        let words = coded(line);
+        let mut words = words.split_inclusive('\n');
+        let (name, asked) = (words.next().expect("a sheet"), words.next().expect("a request"));
+        ([asked.as_bytes(), &sheet(name.trim_end())].concat(), words.collect())
+    };
+    page.lines("| Row | Sheet | Asked | Reply |").into_iter().map(example).collect()
+}
+
+#[test]
+fn the_examples_come_out() {
+    let examples = examples();
+    assert_eq!(examples.len(), 18);
+    let bytes = input(&examples.iter().map(|(case, _)| case).collect::<Vec<_>>());
+    let expected: String = examples.iter().map(|(_, reply)| format!("{reply}\n")).collect();
+    assert_eq!(output(&bytes), expected, "the model");
+    let answer = Program::cases().answer(&bytes).unwrap_or_else(|fault| panic!("{fault}"));
+    assert_eq!(String::from_utf8_lossy(&answer), expected, "cases");
 }
 
 #[test]
