@@ -2,42 +2,118 @@
 -- as the one remainder that the code takes. Assumes nothing.
 use Prim.Native.Nat.{ℕ, _+_, _-_, _*_, _≤_, _<_}
 use mathlib.Core.Path.{_≡_, refl, sym, ap, ap₂, _∙_}
-use mathlib.Core.Bool.{cond}
-use mathlib.Core.List.{List}
+use mathlib.Core.Bool.{Bool, true, false, cond}
+use mathlib.Core.List.{List, _++_}
 use native.Mathlib.Omega.{arith}
 use native.Mathlib.Nat.{add-zero}
 use lib.IntN.{pos, _+ℤ_, _-ℤ_}
-use lib.ListN.{getD}
+use lib.ListN.{drop, getD}
+use lib.Dec.{leb}
 use borrow.Author.Tests.{le-leb, lt-leb}
 use Rattle.circle.specs.Man.{man}
+use Rattle.circle.specs.Over.{listBelow}
 use Rattle.circle.specs.Signed.{leℤ, orZero}
 use Rattle.circle.specs.Method.{Timed, halves, u, pairWidth, B, reference, phase, offset, redEnd, redStart}
 use Rattle.circle.specs.Moved.{chosen, outboundLowering, inboundLowering, lowered as lowered′}
 use Rattle.circle.proofs.Signed.{pos-minus, pos-sub, add-sub, minus-sub, sub-eq, le-sub}
+use Rattle.circle.proofs.Over.{getD-listBelow}
 use Rattle.circle.proofs.Man.{man-lt, man-is, man-turns}
-use Rattle.circle.proofs.Method.{u-range, raised-width, offset-is, reference-lt}
+use Rattle.circle.proofs.Method.{raised-width, offset-is, reference-lt}
 use Rattle.street.specs.Streets.{timedStreet, Sound}
 use Rattle.street.specs.declared.Street.{Street}
-use Rattle.plans.specs.Search.{lowered, pairOf, Pair, Reduced}
+use Rattle.plans.specs.Search.{lowered, pairOf, Pair}
 use Rattle.plans.specs.Moved.{lowering, movedOffset}
-use Rattle.plans.specs.Steps.{Raised, Ready, Better, shiftWidth}
+use Rattle.plans.specs.Steps.{Ready, shiftWidth, choiceBy, betterOf, choiceOf, loweringOf, offsetAt}
+use Rattle.plans.specs.declared.offsets.Choice.{Choice}
 use Rattle.plans.specs.declared.widths.Shift.{Shift}
 use Rattle.plans.specs.declared.widths.Shift.the-variants.{Unmoved, Outbound, Inbound}
 use Rattle.plans.proofs.SearchLaws.{surplus-some, pair-widths}
 use Rattle.plans.proofs.Raised.{lowered-injective}
 
-test : (s : Timed) (c j : ℕ) (w : List ℕ) → Pair s c j w → leℤ (pairWidth s c j (s .cycle)) (pairWidth s c j 0) ≡ lib.Dec.leb (getD w 1 0) (getD w 0 0)
-test s c j w ok =
-    ap₂ leℤ (sym (ok .odd) ∙ pos-minus (getD w 1 0) (halves s)) (sym (ok .even) ∙ pos-minus (getD w 0 0) (halves s))
-    ∙ le-sub (getD w 1 0) (getD w 0 0) (halves s)
+-- a raised width and its red have a u on the cycle in them
+abbrev pub HasU : ℕ → ℕ → ℕ → Type 0
+HasU cycle red w = (2 * cycle ≤ w + 2 * red) × (w + 2 * red ≤ 4 * cycle)
 
-phase-zero : (s : Timed) (c j : ℕ) (w : List ℕ) → Pair s c j w → getD w 1 0 ≤ getD w 0 0 → 0 ≡ phase s c j
-unfolding phase
-phase-zero s c j w ok l = ap (λ t. cond t 0 (s .cycle)) (sym (test s c j w ok ∙ le-leb (getD w 1 0) (getD w 0 0) l))
+module _ (cycle from to red : ℕ) (w : List ℕ) (some : 1 ≤ cycle) (goes : red < cycle) (is : w ≡ pairOf cycle from to red) where
+  pub even-range : HasU cycle red (getD w 0 0)
+  even-range =
+      let h : 0 < 2 * cycle = omega arith in
+      let l = man-lt (2 * cycle) (pos from -ℤ pos to) h in
+      omega (arith, ap (λ z. getD z 0 0) is)
 
-phase-cycle : (s : Timed) (c j : ℕ) (w : List ℕ) → Pair s c j w → getD w 0 0 < getD w 1 0 → s .cycle ≡ phase s c j
-unfolding phase
-phase-cycle s c j w ok l = ap (λ t. cond t 0 (s .cycle)) (sym (test s c j w ok ∙ lt-leb (getD w 1 0) (getD w 0 0) l))
+  pub odd-range : HasU cycle red (getD w 1 0)
+  odd-range =
+      let h : 0 < 2 * cycle = omega arith in
+      let l = man-lt (2 * cycle) (pos from -ℤ pos to -ℤ pos cycle) h in
+      omega (arith, ap (λ z. getD z 1 0) is)
+
+-- the choice by the outcome of its test
+pub choice-even : (cycle from to red : ℕ) (w : List ℕ) → w ≡ pairOf cycle from to red → getD w 1 0 ≤ getD w 0 0 → choiceBy cycle red w true ≡ choiceOf cycle from to red
+choice-even cycle from to red w is l = ap (choiceBy cycle red w) (sym (le-leb (getD w 1 0) (getD w 0 0) l)) ∙ ap (betterOf cycle red) is
+
+pub choice-odd : (cycle from to red : ℕ) (w : List ℕ) → w ≡ pairOf cycle from to red → getD w 0 0 < getD w 1 0 → choiceBy cycle red w false ≡ choiceOf cycle from to red
+choice-odd cycle from to red w is l = ap (choiceBy cycle red w) (sym (lt-leb (getD w 1 0) (getD w 0 0) l)) ∙ ap (betterOf cycle red) is
+
+pub choice-small : (cycle from to red : ℕ) → 1 ≤ cycle → red < cycle → (choiceOf cycle from to red .phase ≤ cycle) × (choiceOf cycle from to red .u ≤ 2 * cycle)
+choice-small cycle from to red some goes = go (leb (getD w 1 0) (getD w 0 0))
+  where
+    w : List ℕ
+    w = pairOf cycle from to red
+
+    go : (t : Bool) → (choiceBy cycle red w t .phase ≤ cycle) × (choiceBy cycle red w t .u ≤ 2 * cycle)
+    go true = let range = even-range cycle from to red w some goes refl in omega arith
+    go false = let range = odd-range cycle from to red w some goes refl in omega arith
+
+-- a raised width has its u in it
+raised-u : (s : Timed) (c j e w : ℕ) → s .red j < s .cycle → lowered s w ≡ pairWidth s c j e → w + 2 * s .red j ≡ u s c j e + 2 * s .cycle
+raised-u s c j e w goes is =
+    let low : 2 * s .red j ≤ 2 * s .cycle = omega arith in
+    let same = lowered-injective s w (u s c j e + (halves s - 2 * s .red j)) (is ∙ raised-width s c j e low) in
+    omega arith
+
+-- the better phase by raised widths is the method's, and so is its u
+module _ (s : Timed) (c j : ℕ) (w : List ℕ) (ok : Pair s c j w) where
+  better-phase : betterOf (s .cycle) (s .red j) w .phase ≡ phase s c j
+  unfolding phase
+  better-phase =
+      sym
+      (ap (λ t. cond t 0 (s .cycle))
+      (ap₂ leℤ (sym (ok .odd) ∙ pos-minus (getD w 1 0) (halves s)) (sym (ok .even) ∙ pos-minus (getD w 0 0) (halves s))
+      ∙ le-sub (getD w 1 0) (getD w 0 0) (halves s)))
+
+  better-u : s .red j < s .cycle → betterOf (s .cycle) (s .red j) w .u ≡ u s c j (phase s c j)
+  better-u goes = go (leb (getD w 1 0) (getD w 0 0)) ∙ ap (u s c j) better-phase
+    where
+      go : (t : Bool) → choiceBy (s .cycle) (s .red j) w t .u ≡ u s c j (cond t 0 (s .cycle))
+      go true = omega (arith, raised-u s c j 0 (getD w 0 0) goes (ok .even))
+      go false = omega (arith, raised-u s c j (s .cycle) (getD w 1 0) goes (ok .odd))
+
+-- the reference is one of the signals
+pub ready-lt : (s : Street) (x : List ℕ) (c raised : ℕ) → Ready s x c raised → c < s .signals
+ready-lt s x c raised ok = omega (arith, ok .found, reference-lt (timedStreet s) (ok .base .sound .some))
+
+-- one side of an offset is small enough that no sum wraps
+pub side-small : (s : Street) (i j : ℕ) → Sound s → i < s .signals → j < s .signals → getD (s .outbound) i 0 + getD (s .inbound) j 0 ≤ 12400062
+side-small s i j ok li lj = omega (arith, ok .out i li, ok .back j lj)
+
+pub lowering-small : (raised red x : ℕ) (shift : Shift) → shiftWidth shift ≤ 12000 → red ≤ 6000 → x ≤ 12000 → loweringOf shift raised red x ≤ 24000
+lowering-small raised red x Unmoved l r m = omega arith
+lowering-small raised red x (Outbound w) l r m = omega (arith, surplus-some (x + w) raised)
+lowering-small raised red x (Inbound w) l r m = omega (arith, surplus-some (w + 2 * red) x)
+
+-- each shift's lowering, with B raised
+lowering-is : (s : Timed) (raised j x : ℕ) (shift : Shift) → lowered s raised ≡ B s → x ≡ chosen s j → loweringOf shift raised (s .red j) x ≡ lowering shift s j
+unfolding outboundLowering inboundLowering
+lowering-is s raised j x Unmoved is e = refl
+lowering-is s raised j x (Outbound w) is e =
+    ap orZero
+    (pos-minus (x + w) raised
+    ∙ sub-eq (x + w) raised (chosen s j + w + halves s) (halves s + 0 + raised) (omega arith)
+    ∙ sym
+    (ap₂ (λ y z. y +ℤ z -ℤ B s) (pos-minus (chosen s j) (halves s)) (pos-sub w)
+    ∙ ap₂ (λ y z. y -ℤ z) (add-sub (chosen s j) (halves s) w 0) (sym is ∙ pos-minus raised (halves s))
+    ∙ minus-sub (chosen s j + w) (halves s + 0) raised (halves s)))
+lowering-is s raised j x (Inbound w) is e = ap (λ (y : ℕ). orZero (pos (w + 2 * s .red j) -ℤ pos y)) e
 
 offset-man : (s : Timed) (c j ahead behind p : ℕ) → 0 < s .cycle → p ≡ phase s c j → ahead ≡ s .outbound j + s .inbound c + p → behind ≡ s .outbound c + s .inbound j → man (halves s) (pos ahead -ℤ pos behind) ≡ offset s c j
 offset-man s c j ahead behind p some ep ea eb =
@@ -47,75 +123,8 @@ offset-man s c j ahead behind p some ep ea eb =
     (offset-is s c j (man (halves s) (pos ahead -ℤ pos behind)) (man-lt (halves s) (pos ahead -ℤ pos behind) h)
     (record { p = turns .p; q = turns .q; eq = omega (arith, turns .eq, ep, ea, eb) }))
 
--- a raised width has its u in it
-raised-u : (s : Timed) (c j e w : ℕ) → s .red j < s .cycle → lowered s w ≡ pairWidth s c j e → w + 2 * s .red j ≡ u s c j e + 2 * s .cycle
-raised-u s c j e w goes is =
-    let low : 2 * s .red j ≤ 2 * s .cycle = omega arith in
-    let same = lowered-injective s w (u s c j e + (halves s - 2 * s .red j)) (is ∙ raised-width s c j e low) in
-    omega arith
-
--- a sound street's pair, as the code forms it
-pub street-pair : (s : Street) (x : List ℕ) (c j : ℕ) (w : List ℕ) → Sound s → Reduced (timedStreet s) x → c < s .signals → j < s .signals → w ≡ pairOf (s .cycle) (getD x c 0) (getD x j 0) (getD (s .reds) j 0) → Pair (timedStreet s) c j w
-street-pair s x c j w ok places lc lj e =
-    pair-widths (timedStreet s) c j (getD x c 0) (getD x j 0) w (omega (arith, ok .shortest)) (ok .goes j lj) (places .each c lc) (places .each j lj) e
-
--- the reference is one of the signals
-pub ready-lt : (s : Street) (x : List ℕ) (c raised : ℕ) → Ready s x c raised → c < s .signals
-ready-lt s x c raised ok = omega (arith, ok .found, reference-lt (timedStreet s) (ok .base .sound .some))
-
--- the sum that u is taken from
-pub raised-range : (s : Street) (c j e w : ℕ) → Sound s → j < s .signals → lowered (timedStreet s) w ≡ pairWidth (timedStreet s) c j e → (2 * s .cycle ≤ w + 2 * getD (s .reds) j 0) × (w + 2 * getD (s .reds) j 0 ≤ 24000)
-raised-range s c j e w ok l is =
-    let turns : 0 < s .cycle = omega (arith, ok .shortest) in
-    let range = u-range (timedStreet s) c j e turns in
-    omega (arith, raised-u (timedStreet s) c j e w (ok .goes j l) is, ok .longest)
-
--- the better phase, and its u
-pub better-even : (s : Timed) (c j : ℕ) (w : List ℕ) → s .red j < s .cycle → Pair s c j w → getD w 1 0 ≤ getD w 0 0 → Better s c j (record { phase = 0; u = getD w 0 0 + 2 * s .red j - 2 * s .cycle })
-better-even s c j w goes ok l =
-    let is = raised-u s c j 0 (getD w 0 0) goes (ok .even) in
-    let own : getD w 0 0 + 2 * s .red j - 2 * s .cycle ≡ u s c j 0 = omega arith in
-    record { better = phase-zero s c j w ok l; gives = own ∙ ap (u s c j) (phase-zero s c j w ok l) }
-
-pub better-odd : (s : Timed) (c j : ℕ) (w : List ℕ) → s .red j < s .cycle → Pair s c j w → getD w 0 0 < getD w 1 0 → Better s c j (record { phase = s .cycle; u = getD w 1 0 + 2 * s .red j - 2 * s .cycle })
-better-odd s c j w goes ok l =
-    let is = raised-u s c j (s .cycle) (getD w 1 0) goes (ok .odd) in
-    let own : getD w 1 0 + 2 * s .red j - 2 * s .cycle ≡ u s c j (s .cycle) = omega arith in
-    record { better = phase-cycle s c j w ok l; gives = own ∙ ap (u s c j) (phase-cycle s c j w ok l) }
-
--- the two lowerings, with B raised
-pub outbound-lowering : (s : Timed) (w j x raised : ℕ) → lowered s raised ≡ B s → x ≡ chosen s j → orZero (pos (x + w) -ℤ pos raised) ≡ outboundLowering s w j
-unfolding outboundLowering
-outbound-lowering s w j x raised is e =
-    ap orZero
-    (pos-minus (x + w) raised
-    ∙ sub-eq (x + w) raised (chosen s j + w + halves s) (halves s + 0 + raised) (omega arith)
-    ∙ sym
-    (ap₂ (λ y z. y +ℤ z -ℤ B s) (pos-minus (chosen s j) (halves s)) (pos-sub w)
-    ∙ ap₂ (λ y z. y -ℤ z) (add-sub (chosen s j) (halves s) w 0) (sym is ∙ pos-minus raised (halves s))
-    ∙ minus-sub (chosen s j + w) (halves s + 0) raised (halves s)))
-
-pub inbound-lowering : (s : Timed) (w j x : ℕ) → x ≡ chosen s j → orZero (pos (w + 2 * s .red j) -ℤ pos x) ≡ inboundLowering s w j
-unfolding inboundLowering
-inbound-lowering s w j x e = ap (λ (y : ℕ). orZero (pos (w + 2 * s .red j) -ℤ pos y)) e
-
-pub chosen-le : (s : Timed) (j : ℕ) → 0 < s .cycle → chosen s j ≤ 2 * s .cycle
-unfolding chosen
-chosen-le s j some = u-range s (reference s) j (phase s (reference s) j) some .1
-
-pub lowering-le : (s : Street) (raised j : ℕ) (shift : Shift) → Raised s raised → shiftWidth shift ≤ 12000 → j < s .signals → lowering shift (timedStreet s) j ≤ 24000
-lowering-le s raised j Unmoved ok l m = omega arith
-lowering-le s raised j (Outbound w) ok l m =
-    let z = timedStreet s in
-    let turns : 0 < s .cycle = omega (arith, ok .sound .shortest) in
-    let top = chosen-le z j turns in
-    omega (arith, surplus-some (chosen z j + w) raised, outbound-lowering z w j (chosen z j) raised (ok .width) refl, ok .sound .longest)
-lowering-le s raised j (Inbound w) ok l m =
-    let z = timedStreet s in
-    omega (arith, surplus-some (w + 2 * z .red j) (chosen z j), inbound-lowering z w j (chosen z j) refl, ok .sound .goes j m, ok .sound .longest)
-
 -- one remainder goes round the cycle for the offset and its lowering
-pub lowered-man : (s : Timed) (c j ahead behind down : ℕ) (shift : Shift) → 0 < s .cycle → c ≡ reference s → ahead ≡ s .outbound j + s .inbound c + phase s c j → behind ≡ s .outbound c + s .inbound j → down ≡ lowering shift s j → man (halves s) (pos ahead -ℤ pos (behind + down)) ≡ movedOffset shift s j
+lowered-man : (s : Timed) (c j ahead behind down : ℕ) (shift : Shift) → 0 < s .cycle → c ≡ reference s → ahead ≡ s .outbound j + s .inbound c + phase s c j → behind ≡ s .outbound c + s .inbound j → down ≡ lowering shift s j → man (halves s) (pos ahead -ℤ pos (behind + down)) ≡ movedOffset shift s j
 unfolding lowered′
 lowered-man s c j ahead behind down shift some found ea eb ed =
     let h : 0 < 2 * s .cycle = omega arith in
@@ -129,6 +138,40 @@ lowered-man s c j ahead behind down shift some found ea eb ed =
     ∙ ap₂ (λ (x y : ℕ). man (halves s) (pos x -ℤ pos y))
     (offset-man s c j ahead behind (phase s c j) some refl ea eb ∙ ap (λ (k : ℕ). offset s k j) found)
     ed
+
+-- an offset from the better phase and the lowering, as the code joins them to the two sides
+pub offset-parts : (cycle raised : ℕ) (shift : Shift) (from to red ahead behind : ℕ) (better : Choice) (down r : ℕ) → better ≡ choiceOf cycle from to red → down ≡ loweringOf shift raised red (better .u) → r ≡ man (2 * cycle) (pos (ahead + better .phase) -ℤ pos (behind + down)) → r ≡ offsetAt cycle raised shift from to red ahead behind
+offset-parts cycle raised shift from to red ahead behind better down r found lowers e =
+    e
+    ∙ ap₂ (λ (x y : ℕ). man (2 * cycle) (pos (ahead + x) -ℤ pos (behind + y)))
+    (ap (λ x. x .phase) found)
+    (lowers ∙ ap (λ x. loweringOf shift raised red (x .u)) found)
+
+-- what the code works out for a signal of a street is the signal's offset
+pub offset-at-is : (s : Street) (x : List ℕ) (c raised j r : ℕ) (shift : Shift) → Ready s x c raised → j < s .signals → r ≡ offsetAt (s .cycle) raised shift (getD x c 0) (getD x j 0) (getD (s .reds) j 0) (getD (s .outbound) j 0 + getD (s .inbound) c 0) (getD (s .outbound) c 0 + getD (s .inbound) j 0) → r ≡ movedOffset shift (timedStreet s) j
+unfolding chosen
+offset-at-is s x c raised j r shift ok l e =
+    let z = timedStreet s in
+    let goes = ok .base .sound .goes j l in
+    let turns : 0 < z .cycle = omega (arith, ok .base .sound .shortest) in
+    let lc = ready-lt s x c raised ok in
+    let w = pairOf (s .cycle) (getD x c 0) (getD x j 0) (z .red j) in
+    let better = betterOf (s .cycle) (z .red j) w in
+    let pair = pair-widths z c j (getD x c 0) (getD x j 0) w turns goes (ok .places .each c lc) (ok .places .each j l) refl in
+    let own : better .u ≡ chosen z j = better-u z c j w pair goes ∙ ap (λ (k : ℕ). u z k j (phase z k j)) (ok .found) in
+    e
+    ∙ lowered-man z c j (z .outbound j + z .inbound c + better .phase) (z .outbound c + z .inbound j) (loweringOf shift raised (z .red j) (better .u)) shift turns (ok .found)
+    (ap (λ (p : ℕ). z .outbound j + z .inbound c + p) (better-phase z c j w pair))
+    refl
+    (lowering-is z raised j (better .u) shift (ok .base .width) own)
+
+-- the reference's own offset, as it stands in a list that was written
+pub own-written : (s : Street) (x : List ℕ) (c raised : ℕ) (shift : Shift) (before after : List ℕ) → Ready s x c raised → after ≡ listBelow (s .signals) (movedOffset shift (timedStreet s)) ++ drop (s .signals) before → getD after c 0 ≡ movedOffset shift (timedStreet s) (reference (timedStreet s))
+own-written s x c raised shift before after ok wrote =
+    let z = timedStreet s in
+    ap (λ xs. getD xs c 0) wrote
+    ∙ getD-listBelow (s .signals) (movedOffset shift z) (drop (s .signals) before) c 0 (ready-lt s x c raised ok)
+    ∙ ap (movedOffset shift z) (ok .found)
 
 pub moved-lt : (s : Timed) (shift : Shift) (j : ℕ) → 0 < s .cycle → movedOffset shift s j < halves s
 unfolding lowered′

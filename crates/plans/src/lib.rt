@@ -12,12 +12,13 @@ use widths::Shift;
 ghost use mathlib.Core.Path.{_≡_};
 ghost use Prim.Native.Nat.{_≤_};
 ghost use lib.IntN.{pos, _-ℤ_};
+ghost use Rattle.circle.specs.Method.{reference};
 ghost use Rattle.street.specs.Lists.{typed};
 ghost use Rattle.street.specs.Streets.{timedStreet};
 ghost use Rattle.plans.specs.Equal.{Equal};
-ghost use Rattle.plans.specs.Moved.{movedPlan};
+ghost use Rattle.plans.specs.Moved.{movedOffset, movedPlan};
 ghost use Rattle.plans.specs.Requests.{Requested};
-ghost use Rattle.plans.specs.Steps.{Ready, shiftWidth};
+ghost use Rattle.plans.specs.Steps.{Raised, shiftWidth};
 
 // A plan's numbers. The reference c is counted from 1. B and the widths are in halves, and B can be negative. `rounded` is m,
 // the number of links with a rounded time. `starts` and `ends` are instants at c, from 0 to H - 1: where the named outbound band
@@ -46,21 +47,22 @@ fn signed(raised: u32, h: u32) -> i32
     (raised as i32) - (h as i32)
 }
 
-// A plan's numbers, from what the search settled on and how far the request moves the equal plan.
-fn numbers(s: Street, x: [u32; 32], c: usize, raised: u32, shift: Shift) -> Plan
-    requires { ⌜ Ready s x c raised × (shiftWidth shift ≤ 12000) ⌝ }
+// A plan's numbers, from what the search settled on, how far the request moves the equal plan, and the reference's own offset.
+fn numbers(s: Street, c: usize, raised: u32, shift: Shift, f: u32) -> Plan
+    requires { ⌜ Raised s raised × (c ≡ reference (timedStreet s)) × (shiftWidth shift ≤ 12000) × (f ≡ movedOffset shift (timedStreet s) (reference (timedStreet s))) ⌝ }
     ensures { λ r. ⌜ r ≡ movedPlan shift (timedStreet s) (s .rounded) ⌝ }
 {
-    let f = offsets::offset_of(s, x, c, raised, shift, c);
+    let h = 2 * s.cycle;
+    let red = s.reds[c];
     let reported = widths::reported(s, raised, shift);
     Plan {
         reference: (c + 1) as u32,
-        b: signed(raised, 2 * s.cycle),
+        b: signed(raised, h),
         outbound: reported.outbound,
         inbound: reported.inbound,
         rounded: s.rounded,
-        starts: offsets::red_end(s, c, f),
-        ends: offsets::red_start(s, c, f),
+        starts: circle::remainder(h, f + red, 0),
+        ends: circle::remainder(h, f, red),
     }
 }
 
@@ -92,7 +94,8 @@ fn planned(
         Verdict::Passed => {
             let shift = widths::settle(s, raised, request);
             offsets::write(s, x, c, raised, shift, offsets);
-            Answer::Planned(numbers(s, x, c, raised, shift))
+            let f = offsets[c];
+            Answer::Planned(numbers(s, c, raised, shift, f))
         }
     }
 }

@@ -5,15 +5,12 @@ use crate::widths::Shift;
 use street::Street;
 ghost use mathlib.Core.Path.{_≡_};
 ghost use mathlib.Core.List.{_++_};
-ghost use Prim.Native.Nat.{_≤_, _<_};
+ghost use Prim.Native.Nat.{_*_, _≤_, _<_};
 ghost use lib.ListN.{length, drop};
 ghost use Rattle.circle.specs.Over.{listBelow};
-ghost use Rattle.circle.specs.Method.{halves, redEnd, redStart};
-ghost use Rattle.circle.specs.Moved.{chosen};
-ghost use Rattle.street.specs.Streets.{timedStreet, Sound};
-ghost use Rattle.plans.specs.Search.{Reduced};
-ghost use Rattle.plans.specs.Moved.{lowering, movedOffset};
-ghost use Rattle.plans.specs.Steps.{Raised, Ready, Better, shiftWidth};
+ghost use Rattle.street.specs.Streets.{timedStreet};
+ghost use Rattle.plans.specs.Moved.{movedOffset};
+ghost use Rattle.plans.specs.Steps.{Ready, shiftWidth, choiceOf, loweringOf, offsetAt};
 
 // A signal's phase against the reference, and the u of that phase.
 pub struct Choice {
@@ -21,14 +18,13 @@ pub struct Choice {
     pub u: u32,
 }
 
-// The better phase of signal j against the reference c, 0 on a tie. A raised width is u + H - 2r.
-fn better_phase(s: Street, x: [u32; 32], c: usize, j: usize) -> Choice
-    requires { ⌜ Sound s × Reduced (timedStreet s) x × (c < s .signals) × (j < s .signals) ⌝ }
-    ensures { λ r. ⌜ Better (timedStreet s) c j r ⌝ }
+// The better phase of a signal against the reference, 0 on a tie, from the two places on the cycle and the signal's red. A raised width
+// is u + H - 2r.
+fn better_phase(cycle: u32, from: u32, to: u32, red: u32) -> Choice
+    requires { ⌜ (1 ≤ cycle) × (cycle ≤ 6000) × (from < 2 * cycle) × (to < 2 * cycle) × (red < cycle) ⌝ }
+    ensures { λ r. ⌜ r ≡ choiceOf cycle from to red ⌝ }
 {
-    let cycle = s.cycle;
-    let red = s.reds[j];
-    let w = search::pair(cycle, x[c], x[j], red);
+    let w = search::pair(cycle, from, to, red);
     if w[1] <= w[0] {
         return Choice {
             phase: 0,
@@ -41,28 +37,36 @@ fn better_phase(s: Street, x: [u32; 32], c: usize, j: usize) -> Choice
     }
 }
 
-// By how much signal j's offset is lowered, from its u.
-fn lowered_by(s: Street, raised: u32, shift: Shift, j: usize, u: u32) -> u32
-    requires { ⌜ Raised s raised × (shiftWidth shift ≤ 12000) × (j < s .signals) × (u ≡ chosen (timedStreet s) j) ⌝ }
-    ensures { λ r. ⌜ r ≡ lowering shift (timedStreet s) j ⌝ }
+// By how much an offset is lowered, from its signal's red and u.
+fn lowered_by(raised: u32, shift: Shift, red: u32, u: u32) -> u32
+    requires { ⌜ (shiftWidth shift ≤ 12000) × (red ≤ 6000) × (u ≤ 12000) ⌝ }
+    ensures { λ r. ⌜ r ≡ loweringOf shift raised red u ⌝ }
 {
     match shift {
         Shift::Unmoved => 0,
         Shift::Outbound(width) => search::surplus(u + width, raised),
-        Shift::Inbound(width) => search::surplus(width + 2 * s.reds[j], u),
+        Shift::Inbound(width) => search::surplus(width + 2 * red, u),
     }
 }
 
-// Signal j's offset. Its lowering joins the sum that is taken away, so that one remainder goes round the cycle.
-pub fn offset_of(s: Street, x: [u32; 32], c: usize, raised: u32, shift: Shift, j: usize) -> u32
-    requires { ⌜ Ready s x c raised × (shiftWidth shift ≤ 12000) × (j < s .signals) ⌝ }
-    ensures { λ r. ⌜ r ≡ movedOffset shift (timedStreet s) j ⌝ }
+// An offset from the places of the reference and the signal, the signal's red and the offset's two sides. The lowering joins the side
+// that is taken away, so that one remainder goes round the cycle.
+fn offset_at(
+    cycle: u32,
+    raised: u32,
+    shift: Shift,
+    from: u32,
+    to: u32,
+    red: u32,
+    ahead: u32,
+    behind: u32,
+) -> u32
+    requires { ⌜ (1 ≤ cycle) × (cycle ≤ 6000) × (from < 2 * cycle) × (to < 2 * cycle) × (red < cycle) × (shiftWidth shift ≤ 12000) × (ahead ≤ 12400062) × (behind ≤ 12400062) ⌝ }
+    ensures { λ r. ⌜ r ≡ offsetAt cycle raised shift from to red ahead behind ⌝ }
 {
-    let better = better_phase(s, x, c, j);
-    let down = lowered_by(s, raised, shift, j, better.u);
-    let ahead = s.outbound[j] + s.inbound[c] + better.phase;
-    let behind = s.outbound[c] + s.inbound[j] + down;
-    circle::remainder(2 * s.cycle, ahead, behind)
+    let better = better_phase(cycle, from, to, red);
+    let down = lowered_by(raised, shift, red, better.u);
+    circle::remainder(2 * cycle, ahead + better.phase, behind + down)
 }
 
 // The first entries of the lent list become the offsets; the others stay.
@@ -71,25 +75,22 @@ pub fn write(s: Street, x: [u32; 32], c: usize, raised: u32, shift: Shift, offse
     ensures { λ _. ⌜ now (offsets .exit) ≡ listBelow (s .signals) (movedOffset shift (timedStreet s)) ++ drop (s .signals) (now (offsets .entry)) ⌝ }
 {
     let n = s.signals;
+    let cycle = s.cycle;
+    let from = x[c];
+    let out = s.outbound[c];
+    let back = s.inbound[c];
     let mut j: usize = 0;
     while j < n {
-        offsets[j] = offset_of(s, x, c, raised, shift, j);
+        offsets[j] = offset_at(
+            cycle,
+            raised,
+            shift,
+            from,
+            x[j],
+            s.reds[j],
+            s.outbound[j] + back,
+            out + s.inbound[j],
+        );
         j += 1;
     }
-}
-
-// The instant at which the red of signal j ends, with its offset f.
-pub fn red_end(s: Street, j: usize, f: u32) -> u32
-    requires { ⌜ Sound s × (j < s .signals) × (f < halves (timedStreet s)) ⌝ }
-    ensures { λ r. ⌜ r ≡ redEnd (timedStreet s) j f ⌝ }
-{
-    circle::remainder(2 * s.cycle, f + s.reds[j], 0)
-}
-
-// The instant at which it starts.
-pub fn red_start(s: Street, j: usize, f: u32) -> u32
-    requires { ⌜ Sound s × (j < s .signals) × (f < halves (timedStreet s)) ⌝ }
-    ensures { λ r. ⌜ r ≡ redStart (timedStreet s) j f ⌝ }
-{
-    circle::remainder(2 * s.cycle, f, s.reds[j])
 }

@@ -1,84 +1,90 @@
 -- `plans::numbers` meets its contract, field by field, from what each part ensures at the reference. Assumes nothing.
 use Prim.Native.Nat.{_+_, _*_, _≤_, _<_}
-use mathlib.Core.Path.{_≡_, ap, ap₂, _∙_}
+use mathlib.Core.Path.{_≡_, ap₂, _∙_}
 use native.Mathlib.Omega.{arith}
 use mir.Syntax.{w32}
 use mir.Val.{toZ, ofZ}
+use lib.ListN.{getD}
 use Rattle.street.specs.Streets.{timedStreet}
 use Rattle.circle.specs.Method.{B, reference, redEnd, redStart}
-use Rattle.plans.specs.Moved.{movedOffset}
+use Rattle.circle.proofs.Method.{reference-lt}
 use Rattle.plans.proofs.SignedLaws.{reread}
-use Rattle.plans.proofs.OffsetLaws.{ready-lt, moved-lt}
+use Rattle.plans.proofs.OffsetLaws.{moved-lt, red-end-man, red-start-man}
 use borrow.Author.Needs.{needs}
 use Rattle.plans.proofs.numbers.Statement.{statement}
 use Rattle.plans.proofs.numbers.Tie as tie
 
-reference-in : (c : tie.Start) → c .args .c < c .args .s .signals
-reference-in c = ready-lt (c .args .s) (c .args .x) (c .args .c) (c .args .raised) (c .pre .0)
+reference-in : (c : tie.Start) → c .args .c < c .args .t1 .signals
+reference-in c = omega (arith, c .pre .1, reference-lt (timedStreet (c .args .t1)) (c .pre .0 .sound .some))
 
--- the reference's own offset lies on the cycle, and is the definition's
-on-cycle : (c : tie.After-offset-of) → c .offset-of .result < 2 * c .before .args .s .cycle
+-- the reference's own offset lies on the cycle, and its red is shorter
+on-cycle : (c : tie.Start) → (c .args .f < 2 * c .args .t1 .cycle) × (getD (c .args .t1 .reds) (c .args .c) 0 < c .args .t1 .cycle) × (1 ≤ c .args .t1 .cycle) × (c .args .t1 .cycle ≤ 6000)
 on-cycle c =
-    let c0 = c .before in
-    let turns : 0 < c0 .args .s .cycle = omega (arith, c0 .pre .0 .base .sound .shortest) in
-    omega (arith, c .offset-of .ensures, moved-lt (timedStreet (c0 .args .s)) (c0 .args .shift) (c0 .args .c) turns)
-
-own-offset : (c : tie.After-offset-of) → c .offset-of .result ≡ movedOffset (c .before .args .shift) (timedStreet (c .before .args .s)) (reference (timedStreet (c .before .args .s)))
-own-offset c =
-    c .offset-of .ensures ∙ ap (movedOffset (c .before .args .shift) (timedStreet (c .before .args .s))) (c .before .pre .0 .found)
+    let s = timedStreet (c .args .t1) in
+    let ok = c .pre .0 .sound in
+    let turns : 0 < s .cycle = omega (arith, ok .shortest) in
+    omega (arith, c .pre .3, moved-lt s (c .args .shift) (reference s) turns, ok .goes (c .args .c) (reference-in c), ok .longest)
 
 -- the signed field holds B
-B-read : (c : tie.After-signed) → toZ w32 (ofZ w32 (c .signed .result)) ≡ B (timedStreet (c .before .before .before .before .args .s))
+B-read : (c : tie.After-signed) → toZ w32 (ofZ w32 (c .signed .result)) ≡ B (timedStreet (c .before .before .before .args .t1))
 B-read c =
-    let c0 = c .before .before .before .before in
-    let base = c0 .pre .0 .base in
+    let c0 = c .before .before .before in
+    let base = c0 .pre .0 in
     let small : c0 .args .raised ≤ 24000 = omega (arith, base .small, base .sound .longest) in
-    let short : 2 * c0 .args .s .cycle ≤ 12000 = omega (arith, base .sound .longest) in
-    reread (c .signed .result) (c0 .args .raised) (2 * c0 .args .s .cycle) small short (c .signed .ensures) ∙ c .signed .ensures ∙ base .width
+    let short : 2 * c0 .args .t1 .cycle ≤ 12000 = omega (arith, base .sound .longest) in
+    reread (c .signed .result) (c0 .args .raised) (2 * c0 .args .t1 .cycle) small short (c .signed .ensures) ∙ c .signed .ensures ∙ base .width
 
-offset-of-requires : tie.Need-offset-of-requires
-offset-of-requires c κs = (c .pre .0, c .pre .1, reference-in c)
+mul-h : tie.Need-mul-h
+mul-h c = search needs
+
+mul-red : tie.Need-mul-red
+mul-red c = omega (arith, reference-in c, c .pre .0 .sound .few)
+
+element-copy-out-red : tie.Need-element-copy-out-red
+element-copy-out-red c = omega (arith, reference-in c, c .pre .0 .sound .few)
 
 reported-requires : tie.Need-reported-requires
 reported-requires c κs = search needs
 
-add-t8 : tie.Need-add-t8
-add-t8 c = omega (arith, reference-in (c .before .before), c .before .before .pre .0 .base .sound .few)
+add-t11 : tie.Need-add-t11
+add-t11 c = omega (arith, reference-in (c .before .before), c .before .before .pre .0 .sound .few)
 
-cast-t9 : tie.Need-cast-t9
-cast-t9 c = omega (arith, reference-in (c .before .before), c .before .before .pre .0 .base .sound .few)
-
-mul-signed : tie.Need-mul-signed
-mul-signed c = search needs
+cast-t10 : tie.Need-cast-t10
+cast-t10 c = omega (arith, reference-in (c .before .before), c .before .before .pre .0 .sound .few)
 
 signed-requires : tie.Need-signed-requires
 signed-requires c κs = search needs
 
-red-end-requires : tie.Need-red-end-requires
-red-end-requires c κs = (c .before .before .before .before .pre .0 .base .sound, reference-in (c .before .before .before .before), on-cycle (c .before .before .before))
+add-remainder : tie.Need-add-remainder
+add-remainder c = omega (arith, on-cycle (c .before .before .before))
 
-red-start-requires : tie.Need-red-start-requires
-red-start-requires c κs = (c .before .before .before .before .before .pre .0 .base .sound, reference-in (c .before .before .before .before .before), on-cycle (c .before .before .before .before))
+remainder-requires : tie.Need-remainder-requires
+remainder-requires c κs = omega (arith, on-cycle (c .before .before .before))
+
+remainder-requires-2 : tie.Need-remainder-requires-2
+remainder-requires-2 c κs = omega (arith, on-cycle (c .before .before .before .before))
 
 returns : tie.Need-returns
 returns c =
-    let c0 = c .before .before .before .before .before .before in
-    let s = timedStreet (c0 .args .s) in
-    let same = c0 .pre .0 .found in
-    let f = own-offset (c .before .before .before .before .before) in
-    let w = c .before .before .before .before .reported .ensures in
-    λ i. record { reference = same i + 1; b = B-read (c .before .before) i; outbound = w i .outbound; inbound = w i .inbound; rounded = c0 .args .s .rounded; starts = (c .before .red-end .ensures ∙ ap₂ (redEnd s) same f) i; ends = (c .red-start .ensures ∙ ap₂ (redStart s) same f) i }
+    let c0 = c .before .before .before .before .before in
+    let s = timedStreet (c0 .args .t1) in
+    let same = c0 .pre .1 in
+    let own = c0 .pre .3 in
+    let w = c .before .before .before .reported .ensures in
+    λ i. record { reference = same i + 1; b = B-read (c .before .before) i; outbound = w i .outbound; inbound = w i .inbound; rounded = c0 .args .t1 .rounded; starts = (c .before .remainder .ensures ∙ red-end-man s (c0 .args .c) (c0 .args .f) ∙ ap₂ (redEnd s) same own) i; ends = (c .remainder2 .ensures ∙ red-start-man s (c0 .args .c) (c0 .args .f) ∙ ap₂ (redStart s) same own) i }
 
 pub numbers-spec : {M : Type 1} → statement M
 numbers-spec =
     tie.close
     (tie.spec
-    offset-of-requires
+    mul-h
+    mul-red
+    element-copy-out-red
     reported-requires
-    add-t8
-    cast-t9
-    mul-signed
+    add-t11
+    cast-t10
     signed-requires
-    red-end-requires
-    red-start-requires
+    add-remainder
+    remainder-requires
+    remainder-requires-2
     returns)

@@ -1,8 +1,9 @@
 -- `plans::planned` meets its contract: a refusal by the verdict of the plan's checks or of the request's; a plan by what the search, the shift, the offsets and the numbers
 -- ensure of the street that passed, carried over to the typed lists. Assumes nothing.
 use mathlib.Core.Path.{_≡_, sym, subst, _∙_}
-use Prim.Native.Nat.{ℕ, _≤_}
+use Prim.Native.Nat.{ℕ, _≤_, _<_}
 use mathlib.Core.List.{List}
+use native.Mathlib.Omega.{arith}
 use lib.ListN.{length}
 use Rattle.street.specs.Lists.{Lists, typed}
 use Rattle.street.specs.Checks.{planChecks}
@@ -12,6 +13,7 @@ use Rattle.street.specs.declared.Verdict.the-variants.{Passed}
 use Rattle.street.proofs.Sound.{verdict-checks, passed-street, passed-sound}
 use Rattle.plans.specs.Requests.{requestCheck}
 use Rattle.plans.specs.Steps.{Ready, shiftWidth}
+use Rattle.plans.proofs.OffsetLaws.{ready-lt, own-written}
 use Rattle.plans.proofs.RequestLaws.{shift-small, passed-room, requested-refused, asked-refused, requested-planned}
 use borrow.Author.Needs.{needs}
 use Rattle.plans.proofs.planned.Statement.{statement}
@@ -53,6 +55,10 @@ ready c =
       places = c .before .reduced .ensures;
       found = r .found;
     }
+
+reference-in : (c : tie.After-reference) → (c .reference .result .signal < survey (c .before .before) .street .signals) × (survey (c .before .before) .street .signals ≤ 32)
+reference-in c =
+    (ready-lt (survey (c .before .before) .street) (c .before .reduced .result) (c .reference .result .signal) (c .reference .result .raised) (ready c), street-sound (c .before .before) .few)
 
 -- a request that passed its check, and the width of its shift
 abbrev out : tie.After-enum-told2 → tie.After-s
@@ -102,8 +108,18 @@ settle-requires c κs = (ready (c .before .before .before) .base, asked-passed c
 write-requires : tie.Need-write-requires
 write-requires c κs = (ready (c .before .before .before .before .before), narrow (c .before), room (c .before .before .before .before .before .before .before))
 
+mul-f : tie.Need-mul-f
+mul-f c = omega (arith, reference-in (c .before .before .before .before .before .before .before .before))
+
+slice-read-f : tie.Need-slice-read-f
+slice-read-f c = omega (arith, reference-in (c .before .before .before .before .before .before .before .before .before), room (c .before .before .before .before .before .before .before .before .before .before .before))
+
 numbers-requires : tie.Need-numbers-requires
-numbers-requires c κs = (ready (c .before .before .before .before .before .before .before .before), narrow (c .before .before .before .before))
+numbers-requires c κs =
+    let r = c .before .before .before .before .before .before .before .before .before in
+    let found = r .reference .result in
+    let shift = c .before .before .before .before .before .settle .result in
+    (ready r .base, ready r .found, narrow (c .before .before .before .before .before), own-written (survey (r .before .before) .street) (r .before .reduced .result) (found .signal) (found .raised) shift (lent (entry (r .before .before))) _ (ready r) (c .before .before .before .write .ensures))
 
 returns-2 : tie.Need-returns-2
 returns-2 c =
@@ -116,11 +132,11 @@ same-length c = search needs
 
 returns-3 : tie.Need-returns-3
 returns-3 c =
-    let asked = c .before .before .before .before .before .before in
+    let asked = c .before .before .before .before .before .before .before in
     let s = out asked in
     let c0 = entry s in
-    let shift = c .before .before .before .before .before .settle in
-    let wrote = c .before .before .before .write in
+    let shift = c .before .before .before .before .before .before .settle in
+    let wrote = c .before .before .before .before .write in
     requested-planned (c0 .args .request) (lists c0) (lent c0) (wrote .last .1 .1 .1 .1 .1 .0) (survey s .street) (shift .result) (c .numbers .result) (passed s) (street-is s) (asked-passed asked) (shift .ensures) (wrote .ensures) (c .numbers .ensures)
 
 pub planned-spec : {M : Type 1} → statement M
@@ -138,6 +154,8 @@ planned-spec =
     enum-told-2
     settle-requires
     write-requires
+    mul-f
+    slice-read-f
     numbers-requires
     returns-2
     same-length
