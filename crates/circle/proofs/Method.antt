@@ -3,7 +3,7 @@
 -- Assumes nothing.
 use Prim.Native.Nat.{ℕ, _+_, _-_, _*_, _≤_, _<_}
 use mathlib.Core.Path.{_≡_, ap, ap₂, _∙_}
-use mathlib.Core.Bool.{Bool, true, false, cond}
+use mathlib.Core.Bool.{cond}
 use native.Mathlib.Omega.{arith}
 use lib.IntN.{pos, subℕ, _+ℤ_, _-ℤ_}
 use Rattle.circle.specs.Signed.{leℤ, eqℤ, maxℤ, orZero}
@@ -126,15 +126,6 @@ module _ (s z : Timed) (agree : Agree s z) where
 pub reference-lt : (s : Timed) → 0 < s .signals → reference s < s .signals
 unfolding reference
 reference-lt s h = first-lt (s .signals) (λ i. eqℤ (b s i) (B s)) h
-
--- the phase is 0 or the cycle
-pub phase-le : (s : Timed) (c j : ℕ) → phase s c j ≤ s .cycle
-unfolding phase
-phase-le s c j = go (leℤ (pairWidth s c j (s .cycle)) (pairWidth s c j 0))
-  where
-    go : (p : Bool) → cond p 0 (s .cycle) ≤ s .cycle
-    go true = omega arith
-    go false = omega arith
 
 -- u from places on the cycle: each signal's red less its two sums, reduced once
 pub u-reduced : (s : Timed) (i j e x y : ℕ) → 0 < s .cycle → x ≡ man (halves s) (pos (s .red i) -ℤ pos (s .outbound i + s .inbound i)) → y ≡ man (halves s) (pos (s .red j) -ℤ pos (s .outbound j + s .inbound j)) → u s i j e ≡ halves s - man (halves s) (pos x -ℤ pos y -ℤ pos e)

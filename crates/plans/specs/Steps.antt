@@ -18,7 +18,7 @@ use Rattle.plans.specs.declared.widths.Shift.{Shift}
 use Rattle.plans.specs.declared.widths.Shift.the-variants.{Unmoved, Outbound, Inbound}
 use Rattle.plans.specs.declared.widths.Widths.{Widths}
 
--- B of a sound street, raised by the cycle; B is at most the cycle itself
+-- B of a sound street, raised by H; B is at most H
 pub record Raised (s : Street) (raised : ℕ) : Type 0 where
   pub sound : Sound s
   pub width : lowered (timedStreet s) raised ≡ B (timedStreet s)
