@@ -1,0 +1,83 @@
+//! The four calls that are timed, as all three programs take and answer them.
+
+/// How many signals a street can have, and how long a lent list is here.
+pub const MAX_SIGNALS: usize = 32;
+
+#[repr(C)]
+#[derive(Clone, Copy, Debug, Default, PartialEq)]
+pub struct Plan {
+    pub code: u32,
+    pub place: u32,
+    pub reference: u32,
+    pub b: i32,
+    pub outbound: u32,
+    pub inbound: u32,
+    pub rounded: u32,
+    pub starts: u32,
+    pub ends: u32,
+}
+
+#[repr(C)]
+#[derive(Clone, Copy, Debug, Default, PartialEq)]
+pub struct Measure {
+    pub code: u32,
+    pub place: u32,
+    pub outbound_width: u32,
+    pub outbound_start: u32,
+    pub inbound_width: u32,
+    pub inbound_start: u32,
+}
+
+#[repr(C)]
+#[derive(Clone, Copy, Debug, Default, PartialEq)]
+pub struct Sheet {
+    pub code: u32,
+    pub place: u32,
+    pub signals: usize,
+    pub cycle: u32,
+    pub reds: [u32; MAX_SIGNALS],
+    pub distances: [u32; MAX_SIGNALS],
+    pub outbound: [u32; MAX_SIGNALS],
+    pub inbound: [u32; MAX_SIGNALS],
+}
+
+/// A refusal's code and place.
+pub type Refusal = (u32, u32);
+
+impl From<Refusal> for Plan {
+    fn from((code, place): Refusal) -> Plan {
+        Plan { code, place, ..Plan::default() }
+    }
+}
+
+impl From<Refusal> for Measure {
+    fn from((code, place): Refusal) -> Measure {
+        Measure { code, place, ..Measure::default() }
+    }
+}
+
+impl From<Refusal> for Sheet {
+    fn from((code, place): Refusal) -> Sheet {
+        Sheet { code, place, ..Sheet::default() }
+    }
+}
+
+/// One of the three programs. Every method is one call of a function that is not inlined.
+pub trait Calls {
+    fn read(bytes: &[u8]) -> Sheet;
+
+    fn equal(cycle: u32, reds: &[u32], distances: &[u32], out: &[u32], back: &[u32], offsets: &mut [u32]) -> Plan;
+
+    /// The plan with a requested outbound width.
+    fn moved(
+        cycle: u32,
+        reds: &[u32],
+        distances: &[u32],
+        out: &[u32],
+        back: &[u32],
+        width: u32,
+        offsets: &mut [u32],
+    ) -> Plan;
+
+    fn measure(cycle: u32, reds: &[u32], distances: &[u32], out: &[u32], back: &[u32], offsets: &[u32]) -> Measure;
+}
