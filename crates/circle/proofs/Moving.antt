@@ -163,10 +163,6 @@ module _ (s : Timed) (fit : Fit s) where
       ∙ sub-eq (2 * Bp + 0) (2 * H + w) (2 * Bp) (2 * H + w) (omega arith))
       ∙ orZero-sub (2 * Bp) (2 * H + w)
 
-  -- where w leaves something, that leaves w
-  pub other-back : (w : ℕ) → 1 ≤ otherWidth s w → otherWidth s (otherWidth s w) ≡ w
-  other-back w some = omega (arith, other-width w, other-width (otherWidth s w))
-
   -- an offset and its lowering make up the equal plan's offset
   pub lowered-turns : (δ : ℕ → ℕ) (j : ℕ) → Turns (halves s) (lowered s δ j + δ j) (offset s (reference s) j)
   unfolding lowered

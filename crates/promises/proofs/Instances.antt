@@ -2,7 +2,6 @@
 -- reported width is the row's, by computation; that it is the measured width is the theorem. Assumes nothing.
 use Prim.Native.Nat.{ℕ}
 use mathlib.Core.Path.{_≡_, refl, _∙_}
-use mathlib.Core.List.{[], _∷_}
 use Rattle.circle.specs.Over.{firstBelow, sumBelow, leastBelow, greatestBelow}
 use Rattle.circle.specs.Method.{u, pairWidth, b, B, equalWidth}
 use Rattle.circle.specs.Bands.{width, outboundWay, inboundWay}
@@ -12,21 +11,7 @@ use Rattle.street.specs.Times.{timed}
 use Rattle.street.specs.declared.Verdict.the-variants.{Passed}
 use Rattle.plans.specs.Equal.{equalOffset}
 use Rattle.promises.proofs.Rounded.{measured}
-
--- two signals with equal reds and one link, driven at 1,000 mm/s both ways
-pair : ℕ → ℕ → ℕ → Lists
-pair cycle red length =
-    record {
-      cycle = cycle;
-      reds = red ∷ red ∷ [];
-      distances = 0 ∷ length ∷ [];
-      outbound = 1000 ∷ [];
-      inbound = 1000 ∷ [];
-    }
-
-street-a : Lists
-street-a =
-    record { cycle = 100; reds = 40 ∷ 50 ∷ []; distances = 0 ∷ 30000 ∷ []; outbound = 10000 ∷ []; inbound = 15000 ∷ [] }
+use Rattle.promises.specs.Rows.{pair, streetA}
 
 -- both bands of a street's equal plan have a width
 BothWide : Lists → ℕ → Type 0
@@ -37,7 +22,7 @@ from-measured : (l : Lists) (v : ℕ) → planChecks l 32 ≡ Passed → equalWi
 unfolding BothWide
 from-measured l v passed e = let m = measured l 32 passed in (m .0 ∙ e, m .1 ∙ e)
 
-instances : BothWide (pair 600 300 30000) 600 × BothWide (pair 600 300 15000) 300 × BothWide street-a 60
-unfolding pair street-a firstBelow sumBelow leastBelow greatestBelow u pairWidth b B equalWidth countCheck roomCheck cycleCheck redCheck distanceCheck speedCheck planChecks
+instances : BothWide (pair 600 300 30000) 600 × BothWide (pair 600 300 15000) 300 × BothWide streetA 60
+unfolding pair streetA firstBelow sumBelow leastBelow greatestBelow u pairWidth b B equalWidth countCheck roomCheck cycleCheck redCheck distanceCheck speedCheck planChecks
 instances =
-    (from-measured (pair 600 300 30000) 600 refl refl, from-measured (pair 600 300 15000) 300 refl refl, from-measured street-a 60 refl refl)
+    (from-measured (pair 600 300 30000) 600 refl refl, from-measured (pair 600 300 15000) 300 refl refl, from-measured streetA 60 refl refl)

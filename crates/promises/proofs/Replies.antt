@@ -35,9 +35,9 @@ use Rattle.promises.specs.Exact.{Fine}
 use Rattle.promises.specs.Moved.{InRange}
 use Rattle.promises.specs.Rounding.{NoneBeats, Short, Exactly, NamedClear, NoneBetter, ReplyKeeps, RequestKeeps}
 use Rattle.promises.proofs.Directions.{fit, stops, rising}
-use Rattle.promises.proofs.Moved.{moved-bands, platoons-in-range}
+use Rattle.promises.proofs.Moved.{moved-bands, sums, platoons-in-range}
 use Rattle.promises.proofs.Rounding.{beats, falls, kept}
-use Rattle.promises.proofs.Whole.{equal-exactly, equal-exact, moved-exact}
+use Rattle.promises.proofs.Whole.{equal-exactly, filled, moved-exact}
 
 -- no code is 0
 code-some : (c : Code) → 1 ≤ codeNumber c
@@ -146,28 +146,35 @@ request-told asked l entry exit r call code =
       in-range asked l room passed (first-passed (requestCheck asked s) Passed asks),
     )
 
--- where no time was rounded no offsets do better than such a shift
-none-better : (shift : Shift) (l : Lists) (room N : ℕ) → planChecks l room ≡ Passed → Fine l N → InRange (timed l) shift → m l ≡ 0 → NoneBetter shift l N (outboundWidth shift (timed l)) (inboundWidth shift (timed l))
-none-better Unmoved l room N passed fine range none = equal-exact l room N passed fine none .1
-none-better (Outbound w) l room N passed fine range none = moved-exact l room N passed fine none w range .2
-none-better (Inbound w) l room N passed fine range none = moved-exact l room N passed fine none w range .3
+-- no offsets do better than such a shift
+none-better : (shift : Shift) (l : Lists) (room N : ℕ) → planChecks l room ≡ Passed → Fine l N → InRange (timed l) shift → NoneBetter shift l N (outboundWidth shift (timed l)) (inboundWidth shift (timed l)) (m l)
+none-better Unmoved l room N passed fine range = beats l room passed N fine
+none-better (Outbound w) l room N passed fine range = λ none. moved-exact l room N passed fine none w range .2
+none-better (Inbound w) l room N passed fine range = λ none. moved-exact l room N passed fine none w range .3
 
 -- what is promised of every plan's numbers and offsets
 Carried : (shift : Shift) (l : Lists) (N : ℕ) (f : ℕ → ℕ) (c : ℕ) (p : Plan) → Type 0
 Carried shift l N f c p =
     Short l N f (p .outbound) (p .inbound) (p .rounded)
     × NamedClear l N f c (p .starts) (p .outbound) (p .ends) (p .inbound) (p .rounded)
-    × (p .rounded ≡ 0 → NoneBetter shift l N (p .outbound) (p .inbound))
+    × NoneBetter shift l N (p .outbound) (p .inbound) (p .rounded)
+    × (p .rounded ≡ 0 → 1 ≤ p .outbound → 1 ≤ p .inbound → Exactly l N f (p .outbound) (p .inbound))
 
 carried : (shift : Shift) (l : Lists) (room N : ℕ) (g : ℕ → ℕ) → planChecks l room ≡ Passed → Fine l N → InRange (timed l) shift → ((j : ℕ) → j < signals l → g j ≡ movedOffset shift (timed l) j) → Carried shift l N g (reference (timed l)) (movedPlan shift (timed l) (m l))
 unfolding Carried
 carried shift l room N g passed fine range same =
     let s = timed l in
     let f = movedOffset shift s in
-    let named = moved-bands s (fit l room passed) (stops l room passed) (rising l room passed) shift range in (
-      falls l room passed N fine f g same (outboundWidth shift s) (inboundWidth shift s) named,
-      kept l room passed N fine f g same (outboundWidth shift s) (inboundWidth shift s) named,
+    let v = outboundWidth shift s in
+    let v′ = inboundWidth shift s in
+    let ok = fit l room passed in
+    let red = stops l room passed in
+    let rise = rising l room passed in
+    let named = moved-bands s ok red rise shift range in (
+      falls l room passed N fine f g same v v′ named,
+      kept l room passed N fine f g same v v′ named,
       none-better shift l room N passed fine range,
+      λ none p q. filled l room passed N fine none f g same v v′ p q (sums s ok red rise shift range p q) named,
     )
 
 pub request-keeps : RequestKeeps

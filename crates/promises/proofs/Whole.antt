@@ -1,16 +1,16 @@
 -- Where no time was rounded. The window of the lags has no length, so every exact stretch is one at rounded times in the fine unit and back. So beside an exact band of w nothing
 -- wider than 2B - w is left, whatever the offsets; and where something is left the two bands of a moved plan leave each other just their widths and are exact. Under the equal plan's
 -- offsets, in the fine unit too, neither band exceeds B, nor 0 where B is negative. Assumes nothing.
-use Prim.Native.Nat.{ℕ, _-_, _*_, _≤_, _<_}
+use Prim.Native.Nat.{ℕ, _+_, _-_, _*_, _≤_, _<_}
 use mathlib.Core.Path.{_≡_, refl, ap, subst}
 use native.Mathlib.Omega.{arith}
 use native.Mathlib.Nat.{mul-le-mul-left}
-use Rattle.circle.specs.Method.{reference, phase, equalWidth, redEnd, redStart}
+use Rattle.circle.specs.Method.{halves, reference, phase, equalWidth, redEnd, redStart}
 use Rattle.circle.specs.Bands.{width}
 use Rattle.circle.specs.Moved.{outboundLowering, inboundLowering, lowered, otherWidth}
 use Rattle.circle.proofs.Reflection.{Patterned, offset-patterned}
 use Rattle.circle.proofs.Scale.{scaled, equal-scaled, other-scaled, patterned-scaled}
-use Rattle.circle.proofs.Moving.{asked, other-back}
+use Rattle.circle.proofs.Moving.{B⁺, asked, other-width}
 use Rattle.circle.proofs.Named.{Bands}
 use Rattle.circle.proofs.Planned.{equal-bands, outbound-bands, inbound-bands}
 use Rattle.circle.proofs.Best.{beside, outbound-most, inbound-most}
@@ -62,13 +62,16 @@ module _ (l : Lists) (room : ℕ) (passed : planChecks l room ≡ Passed) (N : �
       (whole l room passed N fine (outwards l room passed N fine) nothing f)
       (whole l room passed N fine (inwards l room passed N fine) nothing f))
 
-  -- two named bands that leave each other just their widths are exact
-  filled : (f : ℕ → ℕ) (v v′ : ℕ) → 1 ≤ v → 1 ≤ v′ → otherWidth (timed l) v ≡ v′ → otherWidth (timed l) v′ ≡ v → Bands (timed l) f v v′ → Exactly l N f v v′
-  filled f v v′ some some′ is is′ named =
-      let f⁺ : ℕ → ℕ = λ j. N * f j in
-      let (out, back) = falls l room passed N fine f f (λ j h. refl) v v′ named in
-      let most = left v some f⁺ .0 (omega (arith, nothing)) in
-      let most′ = left v′ some′ f⁺ .1 (omega (arith, nothing)) in
+  -- two named bands that make up 2B are exact, under any offsets g that agree with the plan's at every signal
+  pub filled : (f g : ℕ → ℕ) → ((j : ℕ) → j < signals l → g j ≡ f j) → (v v′ : ℕ) → 1 ≤ v → 1 ≤ v′ → v + v′ + 2 * halves (timed l) ≡ 2 * B⁺ (timed l) → Bands (timed l) f v v′ → Exactly l N g v v′
+  filled f g same v v′ some some′ sum named =
+      let s = timed l in
+      let g⁺ : ℕ → ℕ = λ j. N * g j in
+      let (out, back) = falls l room passed N fine f g same v v′ named in
+      let is : otherWidth s v ≡ v′ = omega (arith, other-width s (fit l room passed) v) in
+      let is′ : otherWidth s v′ ≡ v = omega (arith, other-width s (fit l room passed) v′) in
+      let most = left v some g⁺ .0 (omega (arith, nothing)) in
+      let most′ = left v′ some′ g⁺ .1 (omega (arith, nothing)) in
       (omega (arith, nothing, ap (λ (z : ℕ). N * z) is′), omega (arith, nothing, ap (λ (z : ℕ). N * z) is))
 
 pub equal-exact : EqualExact
@@ -82,7 +85,7 @@ moved-exact l room N passed fine none w range =
     let g = lowered s (inboundLowering s w) in
     let v = otherWidth s w in
     let some = asked s (fit l room passed) w range .some in
-    let back = other-back s (fit l room passed) w in
+    let rest = other-width s (fit l room passed) w in
     let out-bands = outbound-bands s (fit l room passed) (rising l room passed) w range in
     let back-bands = inbound-bands s (fit l room passed) (rising l room passed) w range in
     let zero = nothing l room passed N fine none in (
@@ -90,6 +93,6 @@ moved-exact l room N passed fine none w range =
       omega (arith, falls l room passed N fine g g (λ j h. refl) v w back-bands .1),
       λ h. left l room passed N fine none w some h .0,
       λ h. left l room passed N fine none w some h .1,
-      λ h. filled l room passed N fine none f w v some h refl (back h) out-bands,
-      λ h. filled l room passed N fine none g v w h some (back h) refl back-bands,
+      λ h. filled l room passed N fine none f f (λ j k. refl) w v some h (omega arith) out-bands,
+      λ h. filled l room passed N fine none g g (λ j k. refl) v w h some (omega arith) back-bands,
     )

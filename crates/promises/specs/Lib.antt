@@ -4,3 +4,4 @@ pub mod Rounding
 pub mod Tight
 pub mod Moved
 pub mod Replies
+pub mod Rows

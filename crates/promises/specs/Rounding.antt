@@ -143,11 +143,14 @@ ReplyKeeps =
     × NamedClear l N f (p .reference - 1) (p .starts) (p .outbound) (p .ends) (p .inbound) (p .rounded)
     × (p .rounded ≡ 0 → Exactly l N f (p .outbound) (p .inbound))
 
--- no offsets do better than a plan of these widths, by what was moved in it: where nothing was, none makes the narrower band wider, else none with the favoured band gives more beside it
-abbrev pub NoneBetter : Shift → Lists → ℕ → ℕ → ℕ → Type 0
-NoneBetter Unmoved l N v v′ = NoneBeats l N v 0
-NoneBetter (Outbound w) l N v v′ = (f : ℕ → ℕ) → N * v ≤ width (exactOutbound l N f) → width (exactInbound l N f) ≤ N * v′
-NoneBetter (Inbound w) l N v v′ = (f : ℕ → ℕ) → N * v′ ≤ width (exactInbound l N f) → width (exactOutbound l N f) ≤ N * v
+-- no offsets do better than a plan of these widths, by what was moved in it: where nothing was, none makes the narrower band wider by more than r halves; else, where r is 0, none with the
+-- favoured band gives more beside it
+abbrev pub NoneBetter : Shift → Lists → ℕ → ℕ → ℕ → ℕ → Type 0
+NoneBetter Unmoved l N v v′ r = NoneBeats l N v r
+NoneBetter (Outbound w) l N v v′ r =
+    r ≡ 0 → (f : ℕ → ℕ) → N * v ≤ width (exactOutbound l N f) → width (exactInbound l N f) ≤ N * v′
+NoneBetter (Inbound w) l N v v′ r =
+    r ≡ 0 → (f : ℕ → ℕ) → N * v′ ≤ width (exactInbound l N f) → width (exactOutbound l N f) ≤ N * v
 
 -- and of a call with a request, for a width or for two platoons: of the numbers in its reply and the offsets that it leaves, what holds of every plan
 abbrev pub RequestKeeps : Type 0
@@ -157,4 +160,5 @@ RequestKeeps =
     let f : ℕ → ℕ = λ j. getD exit j 0 in
     Short l N f (p .outbound) (p .inbound) (p .rounded)
     × NamedClear l N f (p .reference - 1) (p .starts) (p .outbound) (p .ends) (p .inbound) (p .rounded)
-    × (p .rounded ≡ 0 → NoneBetter (shiftOf request (timed l)) l N (p .outbound) (p .inbound))
+    × NoneBetter (shiftOf request (timed l)) l N (p .outbound) (p .inbound) (p .rounded)
+    × (p .rounded ≡ 0 → 1 ≤ p .outbound → 1 ≤ p .inbound → Exactly l N f (p .outbound) (p .inbound))

@@ -1,0 +1,138 @@
+-- Document 01's rows 1 to 13 and its street A as one table, with what it says of each row: the answer of the row's call and the list that it leaves, and where a row names an exact
+-- best, that some offsets attain it and none exceed it. Each list starts as 7, 7, 7, so that an entry that is not written shows.
+use Prim.Native.Nat.{ℕ}
+use mathlib.Core.Path.{_≡_}
+use mathlib.Core.List.{List, [], _∷_, _++_}
+use lib.IntN.{ℤ, pos, negsuc}
+use lib.ListN.{length}
+use Rattle.circle.specs.Bands.{width}
+use Rattle.street.specs.Lists.{Lists}
+use Rattle.street.specs.declared.Code.{Code}
+use Rattle.street.specs.declared.Code.the-variants.{Platoon, Width}
+use Rattle.plans.specs.declared.Answer.{Answer}
+use Rattle.plans.specs.declared.Answer.the-variants.{Planned, Refused}
+use Rattle.plans.specs.declared.widths.Request.{Request}
+use Rattle.plans.specs.declared.widths.Request.the-variants.{Equal, Outbound, Inbound, Platoons}
+use Rattle.plans.specs.Equal.{equalAnswer, equalAfter}
+use Rattle.plans.specs.Requests.{requestAnswer, requestAfter}
+use Rattle.promises.specs.Exact.{Fine, exactOutbound, exactInbound}
+use Rattle.promises.specs.Rounding.{NoneBeats}
+
+-- the widest narrower band that exact times allow, where a row names it
+pub data Best : Type 0 where
+  unnamed : Best
+  best-is : ℕ → Best
+
+-- some offsets attain it both ways, in a unit in which a half is 1, and none exceed it, in any unit
+unfoldable pub ExactBest : Lists → Best → Type 0
+ExactBest l unnamed = Unit
+ExactBest l (best-is v) =
+    (Fine l 1 × ((f : ℕ → ℕ) × (width (exactOutbound l 1 f) ≡ v) × (width (exactInbound l 1 f) ≡ v)))
+    × ((N : ℕ) → Fine l N → NoneBeats l N v 0)
+
+-- a street and a request, with the answer and the offsets that document 01 gives for them
+pub record Row : Type 0 where
+  pub street : Lists
+  pub request : Request
+  pub expected : Answer
+  pub offsets : List ℕ
+  pub best : Best
+
+unfoldable pub lent : List ℕ
+lent = 7 ∷ 7 ∷ 7 ∷ []
+
+-- what each call's contract says of its reply, and of the lent list
+unfoldable pub reply : Request → Lists → Answer
+reply Equal l = equalAnswer l (length lent)
+reply (Outbound w) l = requestAnswer (Outbound w) l (length lent)
+reply (Inbound w) l = requestAnswer (Inbound w) l (length lent)
+reply (Platoons P Q) l = requestAnswer (Platoons P Q) l (length lent)
+
+unfoldable pub after : Request → Lists → List ℕ
+after Equal l = equalAfter l lent
+after (Outbound w) l = requestAfter (Outbound w) l lent
+after (Inbound w) l = requestAfter (Inbound w) l lent
+after (Platoons P Q) l = requestAfter (Platoons P Q) l lent
+
+unfoldable pub Holds : Row → Type 0
+Holds row =
+    (reply (row .request) (row .street) ≡ row .expected)
+    × (after (row .request) (row .street) ≡ row .offsets)
+    × ExactBest (row .street) (row .best)
+
+unfoldable pub All : List Row → Type 0
+All [] = Unit
+All (row ∷ rows) = Holds row × All rows
+
+-- two signals with equal reds and a link of some ticks each way, at 1,000 mm/s
+unfoldable pub pair : ℕ → ℕ → ℕ → Lists
+pair cycle red length =
+    record {
+      cycle = cycle;
+      reds = red ∷ red ∷ [];
+      distances = 0 ∷ length ∷ [];
+      outbound = 1000 ∷ [];
+      inbound = 1000 ∷ [];
+    }
+
+unfoldable pub streetA : Lists
+streetA =
+    record { cycle = 100; reds = 40 ∷ 50 ∷ []; distances = 0 ∷ 30000 ∷ []; outbound = 10000 ∷ []; inbound = 15000 ∷ [] }
+
+-- a plan by its reference, B, outbound and inbound width, m and the named bands' instants, in that order
+unfoldable pub plan : ℕ → ℤ → ℕ → ℕ → ℕ → ℕ → ℕ → Answer
+plan c B out back m starts ends =
+    Planned
+    (record { reference = c; b = B; outbound = out; inbound = back; rounded = m; starts = starts; ends = ends })
+
+unfoldable pub row : Lists → Request → Answer → List ℕ → Row
+row l request expected offsets =
+    record { street = l; request = request; expected = expected; offsets = offsets; best = unnamed }
+
+-- a row that names an exact best too
+unfoldable pub best-row : Lists → Request → Answer → List ℕ → ℕ → Row
+best-row l request expected offsets v =
+    record { street = l; request = request; expected = expected; offsets = offsets; best = best-is v }
+
+unfoldable pub refusal : Code → ℕ → Answer
+refusal code place = Refused (record { code = code; place = place })
+
+-- the equal plans of rows 1 to 5, 9 and street A
+unfoldable pub equal-rows : List Row
+equal-rows =
+    row (record { cycle = 600; reds = 240 ∷ []; distances = 0 ∷ []; outbound = []; inbound = [] }) Equal (plan 1 (pos 720) 720 720 0 240 960) (0 ∷ 7 ∷ 7 ∷ [])
+    ∷ row (pair 600 300 30000) Equal (plan 1 (pos 600) 600 600 0 300 900) (0 ∷ 600 ∷ 7 ∷ [])
+    ∷ row (pair 600 300 15000) Equal (plan 1 (pos 300) 300 300 0 300 900) (0 ∷ 0 ∷ 7 ∷ [])
+    ∷ row (pair 600 450 15000) Equal (plan 1 (pos 0) 0 0 0 450 750) (0 ∷ 0 ∷ 7 ∷ [])
+    ∷ row (pair 600 500 15000) Equal (plan 1 (negsuc 99) 0 0 0 500 700) (0 ∷ 0 ∷ 7 ∷ [])
+    ∷ best-row (pair 10 5 50) Equal (plan 1 (pos 8) 8 8 1 5 15) (0 ∷ 0 ∷ 7 ∷ []) 9
+    ∷ row streetA Equal (plan 1 (pos 60) 60 60 0 40 160) (0 ∷ 10 ∷ 7 ∷ [])
+    ∷ []
+
+-- rows 6 to 8 and 10
+unfoldable pub width-rows : List Row
+width-rows =
+    row streetA (Outbound 80) (plan 1 (pos 60) 80 40 0 20 140) (180 ∷ 10 ∷ 7 ∷ [])
+    ∷ row streetA (Inbound 80) (plan 1 (pos 60) 40 80 0 40 160) (0 ∷ 190 ∷ 7 ∷ [])
+    ∷ row (pair 600 500 15000) (Outbound 200) (plan 1 (negsuc 99) 200 0 0 200 400) (900 ∷ 0 ∷ 7 ∷ [])
+    ∷ row streetA (Outbound 59) (refusal Width 0) lent
+    ∷ row streetA (Outbound 60) (plan 1 (pos 60) 60 60 0 40 160) (0 ∷ 10 ∷ 7 ∷ [])
+    ∷ row streetA (Outbound 100) (plan 1 (pos 60) 100 20 0 0 120) (160 ∷ 10 ∷ 7 ∷ [])
+    ∷ row streetA (Outbound 101) (refusal Width 0) lent
+    ∷ row (pair 600 500 15000) (Inbound 0) (refusal Width 0) lent
+    ∷ []
+
+-- rows 11 to 13, platoons the other way round and equal ones, and the limit
+unfoldable pub platoon-rows : List Row
+platoon-rows =
+    row streetA (Platoons 30 10) (plan 1 (pos 60) 90 30 0 10 130) (170 ∷ 10 ∷ 7 ∷ [])
+    ∷ row streetA (Platoons 100 50) (plan 1 (pos 60) 100 20 0 0 120) (160 ∷ 10 ∷ 7 ∷ [])
+    ∷ row (pair 600 500 15000) (Platoons 50 10) (plan 1 (negsuc 99) 200 0 0 200 400) (900 ∷ 0 ∷ 7 ∷ [])
+    ∷ row streetA (Platoons 10 30) (plan 1 (pos 60) 30 90 0 40 160) (0 ∷ 180 ∷ 7 ∷ [])
+    ∷ row streetA (Platoons 0 0) (plan 1 (pos 60) 60 60 0 40 160) (0 ∷ 10 ∷ 7 ∷ [])
+    ∷ row streetA (Platoons 100001 100001) (refusal Platoon 1) lent
+    ∷ row streetA (Platoons 100000 100001) (refusal Platoon 2) lent
+    ∷ []
+
+unfoldable pub rows : List Row
+rows = equal-rows ++ (width-rows ++ platoon-rows)
