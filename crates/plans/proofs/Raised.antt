@@ -5,7 +5,7 @@ use mathlib.Core.List.{List, []}
 use native.Mathlib.Omega.{arith}
 use lib.IntN.{pos, subℕ}
 use lib.ListN.{length, getD, set}
-use borrow.Author.Count.{below-more}
+use native.Mathlib.Decide.{ℕ-discrete}
 use lib.Seq.{getD-set-same, getD-set-other}
 use Rattle.circle.specs.Signed.{maxℤ}
 use Rattle.circle.specs.Over.{leastBelow}
@@ -73,13 +73,14 @@ leads-still g k signal most x lead l e =
       before = lead .before;
     }
 
--- a property of each row of the table of widths, with one row more
-pub rows-more : (P : ℕ → List (List ℕ) → Type 0) (widths : List (List (List ℕ))) (i : ℕ) (row : List (List ℕ)) → i < 32 → length widths ≡ 32 → ((q : ℕ) → q < i → P q (getD widths q [])) → P i row → (q : ℕ) → q < i + 1 → P q (getD (set widths i row) q [])
-rows-more P widths i row l size before here q m =
-    let here′ = subst (P i) (sym (getD-set-same widths i row [] (omega arith))) here in
-    below-more (λ k. P k (getD (set widths i row) k [])) i
-    (λ k o. subst (P k) (sym (getD-set-other widths i k row [] (λ same. omega arith))) (before k o))
-    here′ q m
+-- a property of a row of the table of widths, once the row i is another
+pub row-set : (P : ℕ → List (List ℕ) → Type 0) (widths : List (List (List ℕ))) (i : ℕ) (row : List (List ℕ)) (q : ℕ) → i < length widths → P i row → ((q ≡ i → ⊥) → P q (getD widths q [])) → P q (getD (set widths i row) q [])
+row-set P widths i row q l here other = go (ℕ-discrete q i)
+  where
+    go : Dec (q ≡ i) → P q (getD (set widths i row) q [])
+    go (yes e) =
+        subst (λ (k : ℕ). P k (getD (set widths i row) k [])) (sym e) (subst (P i) (sym (getD-set-same widths i row [] l)) here)
+    go (no n) = subst (P q) (sym (getD-set-other widths i q row [] n)) (other n)
 
 pub fit-sound : (s : Street) → Sound s → Fit (timedStreet s)
 fit-sound s ok = record { some = ok .some; turns = omega (arith, ok .shortest); goes = ok .goes }

@@ -4,6 +4,7 @@ use street::Street;
 ghost use mathlib.Core.Path.{_≡_};
 ghost use Prim.Native.Nat.{_*_, _≤_, _<_};
 ghost use lib.IntN.{pos, _-ℤ_};
+ghost use lib.ListN.{length};
 ghost use Rattle.circle.specs.Signed.{minℤ, maxℤ, orZero};
 ghost use Rattle.circle.specs.Over.{leastBelow};
 ghost use Rattle.street.specs.Streets.{timedStreet, Sound};
@@ -70,19 +71,17 @@ pub fn pair(cycle: u32, from: u32, to: u32, red: u32) -> [u32; 2]
     [2 * h - even - 2 * red, 2 * h - odd - 2 * red]
 }
 
-// A candidate's row: a pair of raised widths for each limit.
-fn row(cycle: u32, reds: &[u32; 32], x: &[u32; 32], n: usize, i: usize) -> [[u32; 2]; 32]
-    requires { ⌜ (1 ≤ cycle) × (cycle ≤ 6000) × (n ≤ 32) × (i < n) × Turning cycle n (now reds) (now x) ⌝ }
-    ensures { λ r. ⌜ Row cycle n (now (reds .entry)) (now (x .entry)) i r ⌝ }
+// Fills a candidate's row: a pair of raised widths for each limit.
+fn fill(cycle: u32, reds: &[u32; 32], x: &[u32; 32], n: usize, i: usize, pairs: &mut [[u32; 2]; 32])
+    requires { ⌜ (1 ≤ cycle) × (cycle ≤ 6000) × (n ≤ 32) × (i < n) × Turning cycle n (now reds) (now x) × (n ≤ length (now pairs)) ⌝ }
+    ensures { λ _. ⌜ Row cycle n (now (reds .entry)) (now (x .entry)) i (now (pairs .exit)) × (length (now (pairs .exit)) ≡ length (now (pairs .entry))) ⌝ }
 {
     let from = x[i];
-    let mut pairs = [[0u32; 2]; 32];
     let mut j: usize = 0;
     while j < n {
         pairs[j] = pair(cycle, from, x[j], reds[j]);
         j += 1;
     }
-    pairs
 }
 
 // The least over the limits of the larger width of each pair: a candidate's b(i), raised.
@@ -111,7 +110,7 @@ pub fn reference(s: Street, x: [u32; 32]) -> Candidate
     let mut widths = [[[0u32; 2]; 32]; 32];
     let mut i: usize = 0;
     while i < n {
-        widths[i] = row(cycle, &reds, &x, n, i);
+        fill(cycle, &reds, &x, n, i, &mut widths[i]);
         i += 1;
     }
     let mut signal: usize = 0;

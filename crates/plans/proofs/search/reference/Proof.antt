@@ -1,14 +1,14 @@
 -- `plans::search::reference` meets its contract. The first loop's invariant: the rows before `i` are filled. The second's: `signal` leads among the candidates before `k`, the
 -- first of those with the greatest b(i), which `raised` is. Assumes nothing.
 use Prim.Native.Nat.{ℕ, _+_, _-_, _≤_, _<_}
-use mathlib.Core.Path.{subst₂, _≡_, refl, sym}
+use mathlib.Core.Path.{subst₂, _≡_, refl, sym, ap, _∙_}
 use mathlib.Core.Logic.{⊎-elim}
 use mathlib.Core.List.{[]}
 use native.Mathlib.Omega.{arith}
-use lib.ListN.{length-set, length, getD}
+use lib.ListN.{length-set, length, getD, replicate, getD-replicate}
 use borrow.Author.Count.{below-none}
 use borrow.Author.Needs.{needs}
-use Rattle.plans.proofs.Raised.{settled, Leading, leads-first, leads-new, leads-still, rows-more, fit-sound, turning, candidate-is}
+use Rattle.plans.proofs.Raised.{settled, Leading, leads-first, leads-new, leads-still, row-set, fit-sound, turning, candidate-is}
 use Rattle.street.specs.Streets.{timedStreet}
 use Rattle.plans.specs.Search.{Row}
 use Rattle.circle.proofs.Raised.{b⁺}
@@ -16,7 +16,7 @@ use Rattle.plans.proofs.search.reference.Statement.{statement}
 use Rattle.plans.proofs.search.reference.Tie as tie
 
 abbrev Inv-loop : tie.InvT-loop
-Inv-loop s x n cycle reds widths₀ i₀ widths i = (i ≤ s .signals) × (length widths ≡ 32) × ((q : ℕ) → q < i → Row (s .cycle) (s .signals) (s .reds) x q (getD widths q []))
+Inv-loop s x n cycle reds widths₀ i₀ widths i = (i ≤ s .signals) × (length widths ≡ 32) × ((q : ℕ) → q < 32 → length (getD widths q []) ≡ 32) × ((q : ℕ) → q < i → Row (s .cycle) (s .signals) (s .reds) x q (getD widths q []))
 
 abbrev μ-loop : tie.MeasureT-loop
 μ-loop s x n cycle reds widths₀ i₀ widths i = s .signals - i
@@ -28,19 +28,21 @@ abbrev μ-loop2 : tie.MeasureT-loop2
 μ-loop2 s n cycle widths i signal₀ raised₀ k₀ signal raised k = s .signals - k
 
 loop-holds : tie.Need-loop-holds Inv-loop μ-loop Inv-loop2 μ-loop2
-loop-holds c = (search needs, refl, below-none _)
+loop-holds c = (search needs, refl, λ q l. ap length (getD-replicate 32 q (replicate 32 (replicate 2 0)) [] l), below-none _)
 
-row-requires : tie.Need-row-requires Inv-loop μ-loop Inv-loop2 μ-loop2
-row-requires c κs =
-    let c0 = c .before .before .before .before .before in
+mul-fill : tie.Need-mul-fill Inv-loop μ-loop Inv-loop2 μ-loop2
+mul-fill c = search needs
+
+index-1-fill : tie.Need-index-1-fill Inv-loop μ-loop Inv-loop2 μ-loop2
+index-1-fill c = search needs
+
+fill-requires : tie.Need-fill-requires Inv-loop μ-loop Inv-loop2 μ-loop2
+fill-requires c κs =
+    let c0 = c .before .before .before .before .before .before in
+    let loop = c .before .before .before .before .loop in
     let ok = c0 .pre .0 in
-    (omega (arith, ok .shortest), ok .longest, ok .few, c .before .before .loop-test .taken, turning (c0 .args .s) (c0 .args .t2) ok (c0 .pre .1))
-
-mul-widths : tie.Need-mul-widths Inv-loop μ-loop Inv-loop2 μ-loop2
-mul-widths c = search needs
-
-array-set-from-widths : tie.Need-array-set-from-widths Inv-loop μ-loop Inv-loop2 μ-loop2
-array-set-from-widths c = search needs
+    let in-row : loop .i < 32 = omega (arith, ok .few) in
+    (omega (arith, ok .shortest), ok .longest, ok .few, omega arith, turning (c0 .args .s) (c0 .args .t2) ok (c0 .pre .1), omega (arith, ok .few, loop .inv .2 (loop .i) in-row))
 
 add-i : tie.Need-add-i Inv-loop μ-loop Inv-loop2 μ-loop2
 add-i c = search needs
@@ -50,10 +52,19 @@ loop-less c = search needs
 
 loop-again : tie.Need-loop-again Inv-loop μ-loop Inv-loop2 μ-loop2
 loop-again c =
-    let c0 = c .before .before .before .before .before .before in
-    let loop = c .before .before .before .before .loop in
+    let c0 = c .before .before .before .before .before .before .before in
+    let loop = c .before .before .before .before .before .loop in
     let s = c0 .args .s in
-    (omega arith, simp length-set (loop .inv .1), rows-more (Row (s .cycle) (s .signals) (s .reds) (c0 .args .t2)) (loop .widths) (loop .i) (c .row .result) (omega (arith, c0 .pre .0 .few)) (loop .inv .1) (loop .inv .2) (c .row .ensures))
+    let i = loop .i in
+    let in-table : i < length (loop .widths) = omega (arith, loop .inv .1, c0 .pre .0 .few) in
+    let in-row : i < 32 = omega (arith, c0 .pre .0 .few) in (
+      omega arith,
+      simp length-set (loop .inv .1),
+      λ q l.
+          row-set (λ k row. length row ≡ 32) (loop .widths) i _ q in-table (c .fill .ensures .1 ∙ loop .inv .2 i in-row) (λ n. loop .inv .2 q l),
+      λ q l.
+          row-set (Row (s .cycle) (s .signals) (s .reds) (c0 .args .t2)) (loop .widths) i _ q in-table (c .fill .ensures .0) (λ n. loop .inv .3 q (omega (arith, n))),
+    )
 
 index-1-least : tie.Need-index-1-least Inv-loop μ-loop Inv-loop2 μ-loop2
 index-1-least c = search needs
@@ -68,7 +79,7 @@ loop2-holds c =
     let ok = c0 .pre .0 in
     let s = c0 .args .s in
     let first : 0 < s .signals = omega (arith, ok .some) in
-    (search needs, ok .some, leads-first _ _ (candidate-is s (c0 .args .t2) 0 (getD (rows .widths) 0 []) (c .least .result) ok (c0 .pre .1) first (rows .inv .2 0 (omega arith)) (c .least .ensures)))
+    (search needs, ok .some, leads-first _ _ (candidate-is s (c0 .args .t2) 0 (getD (rows .widths) 0 []) (c .least .result) ok (c0 .pre .1) first (rows .inv .3 0 (omega arith)) (c .least .ensures)))
 
 mul-least : tie.Need-mul-least Inv-loop μ-loop Inv-loop2 μ-loop2
 mul-least c = search needs
@@ -93,7 +104,7 @@ loop2-again c =
     let s = c0 .args .s in
     let g = b⁺ (timedStreet s) in
     let k = loop .k in
-    let here = candidate-is s (c0 .args .t2) k (getD (rows .widths) k []) (c .before .least2 .result) (c0 .pre .0) (c0 .pre .1) (omega arith) (rows .inv .2 k (omega arith)) (c .before .least2 .ensures) in (
+    let here = candidate-is s (c0 .args .t2) k (getD (rows .widths) k []) (c .before .least2 .result) (c0 .pre .0) (c0 .pre .1) (omega arith) (rows .inv .3 k (omega arith)) (c .before .least2 .ensures) in (
       omega arith,
       omega arith,
       ⊎-elim
@@ -122,9 +133,9 @@ reference-spec =
     Inv-loop2
     μ-loop2
     loop-holds
-    row-requires
-    mul-widths
-    array-set-from-widths
+    mul-fill
+    index-1-fill
+    fill-requires
     add-i
     loop-less
     loop-again

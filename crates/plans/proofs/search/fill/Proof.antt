@@ -1,21 +1,21 @@
--- `plans::search::row` meets its contract. The loop's invariant: the row holds the pairs of the limits before `j`, and zeros from there on. Assumes nothing.
+-- `plans::search::fill` meets its contract. The loop's invariant: the row holds the pairs of the limits before `j`, and zeros from there on. Assumes nothing.
 use Prim.Native.Nat.{ℕ, _-_, _≤_}
 use mathlib.Core.Path.{_≡_, refl, ap, _∙_}
 use mathlib.Core.List.{List, [], _++_}
 use native.Mathlib.Omega.{arith}
-use lib.ListN.{replicate, drop, getD}
+use lib.ListN.{length, length-set, drop, getD}
 use borrow.Author.Needs.{needs}
 use Rattle.circle.specs.Over.{listBelow}
 use Rattle.circle.proofs.Over.{fill-store, getD-listBelow}
 use Rattle.plans.specs.Search.{pairOf}
-use Rattle.plans.proofs.search.row.Statement.{statement}
-use Rattle.plans.proofs.search.row.Tie as tie
+use Rattle.plans.proofs.search.fill.Statement.{statement}
+use Rattle.plans.proofs.search.fill.Tie as tie
 
 abbrev Inv-loop : tie.InvT-loop
-Inv-loop cycle reds x n i from pairs₀ j₀ pairs j = (j ≤ n) × (pairs ≡ listBelow j (λ q. pairOf cycle from (getD x q 0) (getD reds q 0)) ++ drop j (replicate 32 (replicate 2 0)))
+Inv-loop cycle reds x n i pairs₀ from j₀ pairs j = (j ≤ n) × (length pairs ≡ length pairs₀) × (pairs ≡ listBelow j (λ q. pairOf cycle from (getD x q 0) (getD reds q 0)) ++ drop j pairs₀)
 
 abbrev μ-loop : tie.MeasureT-loop
-μ-loop cycle reds x n i from pairs₀ j₀ pairs j = n - j
+μ-loop cycle reds x n i pairs₀ from j₀ pairs j = n - j
 
 mul-from : tie.Need-mul-from Inv-loop μ-loop
 mul-from c = search needs
@@ -25,7 +25,7 @@ element-copy-out-from c = search needs
 
 loop-holds : tie.Need-loop-holds Inv-loop μ-loop
 unfolding listBelow
-loop-holds c = (search needs, refl)
+loop-holds c = (search needs, refl, refl)
 
 mul-pair : tie.Need-mul-pair Inv-loop μ-loop
 mul-pair c = search needs
@@ -46,11 +46,11 @@ pair-requires c κs =
     let turning = c0 .pre .4 in
     omega (arith, c0 .pre .0, c0 .pre .1, turning .on (c0 .args .i) (c0 .pre .3), turning .on j (omega arith), turning .goes j (omega arith))
 
-mul-pairs : tie.Need-mul-pairs Inv-loop μ-loop
-mul-pairs c = search needs
+mul-t23 : tie.Need-mul-t23 Inv-loop μ-loop
+mul-t23 c = search needs
 
-array-set-from-pairs : tie.Need-array-set-from-pairs Inv-loop μ-loop
-array-set-from-pairs c = search needs
+element-set-from-pairs : tie.Need-element-set-from-pairs Inv-loop μ-loop
+element-set-from-pairs c = search needs
 
 add-j : tie.Need-add-j Inv-loop μ-loop
 add-j c = search needs
@@ -63,17 +63,17 @@ loop-again c =
     let c0 = c .before .before .before .before .before .before in
     let loop = c .before .before .before .before .loop in
     let all : ℕ → List ℕ = λ q. pairOf (c0 .args .cycle) (getD (c0 .args .x .now) (c0 .args .i) 0) (getD (c0 .args .x .now) q 0) (getD (c0 .args .reds .now) q 0) in
-    (omega arith, fill-store (replicate 32 (replicate 2 0)) (loop .pairs) all (loop .j) (c .pair .result) [] (omega (arith, c0 .pre .2)) (loop .inv .1) (c .pair .ensures))
+    (omega arith, simp length-set (loop .inv .1), fill-store (c0 .args .pairs .now) (loop .pairs) all (loop .j) (c .pair .result) [] (omega (arith, c0 .pre .5)) (loop .inv .2) (c .pair .ensures))
 
 returns : tie.Need-returns Inv-loop μ-loop
 returns c =
     let c0 = c .before .before .before in
     let loop = c .before .loop in
     let all : ℕ → List ℕ = λ q. pairOf (c0 .args .cycle) (getD (c0 .args .x .now) (c0 .args .i) 0) (getD (c0 .args .x .now) q 0) (getD (c0 .args .reds .now) q 0) in
-    record { each = λ j l. ap (λ z. getD z j []) (loop .inv .1) ∙ getD-listBelow (loop .j) all _ j [] (omega arith) }
+    (record { each = λ j l. ap (λ z. getD z j []) (loop .inv .2) ∙ getD-listBelow (loop .j) all _ j [] (omega arith) }, loop .inv .1)
 
-pub row-spec : {M : Type 1} → statement M
-row-spec =
+pub fill-spec : {M : Type 1} → statement M
+fill-spec =
     tie.close
     (tie.spec
     Inv-loop
@@ -86,8 +86,8 @@ row-spec =
     mul-pair-2
     element-copy-out-pair-2
     pair-requires
-    mul-pairs
-    array-set-from-pairs
+    mul-t23
+    element-set-from-pairs
     add-j
     loop-less
     loop-again
