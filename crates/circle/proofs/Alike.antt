@@ -9,10 +9,11 @@ use lib.IntN.{pos, _-ℤ_}
 use lib.Dec.{leb}
 use Rattle.circle.specs.Man.{man}
 use Rattle.circle.specs.Over.{firstBelow, indexOf}
-use Rattle.circle.specs.Method.{Timed, halves, redStart}
+use Rattle.circle.specs.Method.{Timed}
 use Rattle.circle.specs.Bands.{Way, allBelow, someBelow, greatestUpTo, clear, stretch, width, bandStart, outboundWay, inboundWay}
 use Rattle.circle.proofs.Over.{first-ext}
 use Rattle.circle.proofs.Method.{Agree, redStart-agree}
+use Rattle.circle.proofs.Since.{along}
 use Rattle.circle.proofs.Tests.{all-ext, greatestUpTo-ext}
 
 -- how far past the start of signal j's red the departure at x comes by, round the cycle
@@ -53,32 +54,25 @@ module _ (v w : Way) (same : Alike v w) where
       ∙ ap (λ (M : ℕ). firstBelow M (λ x. stretch w x (width w))) (same .around))
 
 module _ (s z : Timed) (agree : Agree s z) (offset : ℕ → ℕ) where
-  -- a lag's agreement is all that the directions differ in
-  past-agree : (x j a b : ℕ) → j < s .signals → a ≡ b → man (halves s) (pos (x + a) -ℤ pos (redStart s j (offset j))) ≡ man (halves z) (pos (x + b) -ℤ pos (redStart z j (offset j)))
-  past-agree x j a b l e = cc (agree .cycle, redStart-agree s z agree j (offset j) l)
+  -- the directions differ in their lags alone
+  ways-alike : (lag lag′ : ℕ → ℕ) → ((j : ℕ) → j < s .signals → lag j ≡ lag′ j) → Alike (along (outboundWay s offset) lag) (along (outboundWay z offset) lag′)
+  ways-alike lag lag′ same =
+      record {
+        around = ap (λ (c : ℕ). 2 * c) (agree .cycle);
+        signals = agree .signals;
+        length = λ j l. ap (λ (r : ℕ). 2 * r) (agree .red j l);
+        past = λ x j l. cc (agree .cycle, redStart-agree s z agree j (offset j) l, same j l);
+      }
 
   pub outbound-alike : Alike (outboundWay s offset) (outboundWay z offset)
   outbound-alike =
-      record {
-        around = ap (λ (c : ℕ). 2 * c) (agree .cycle);
-        signals = agree .signals;
-        length = λ j l. ap (λ (r : ℕ). 2 * r) (agree .red j l);
-        past =
-            λ x j l.
-            past-agree x j (2 * s .outbound j) (2 * z .outbound j) l (ap (λ (t : ℕ). 2 * t) (agree .outbound j l));
-      }
+      ways-alike (outboundWay s offset .lag) (outboundWay z offset .lag) (λ j l. ap (λ (t : ℕ). 2 * t) (agree .outbound j l))
 
   pub inbound-alike : Alike (inboundWay s offset) (inboundWay z offset)
   inbound-alike =
-      record {
-        around = ap (λ (c : ℕ). 2 * c) (agree .cycle);
-        signals = agree .signals;
-        length = λ j l. ap (λ (r : ℕ). 2 * r) (agree .red j l);
-        past =
-            λ x j l.
-            let last : s .signals - 1 < s .signals = omega arith in
-            let far : s .inbound (s .signals - 1) ≡ z .inbound (z .signals - 1) =
-            agree .inbound (s .signals - 1) last ∙ ap (λ (n : ℕ). z .inbound (n - 1)) (agree .signals) in
-            past-agree x j (2 * (s .inbound (s .signals - 1) - s .inbound j)) (2 * (z .inbound (z .signals - 1) - z .inbound j)) l
-            (ap₂ (λ (t u : ℕ). 2 * (t - u)) far (agree .inbound j l));
-      }
+      ways-alike (inboundWay s offset .lag) (inboundWay z offset .lag)
+      (λ j l.
+      let last : s .signals - 1 < s .signals = omega arith in
+      let far : s .inbound (s .signals - 1) ≡ z .inbound (z .signals - 1) =
+      agree .inbound (s .signals - 1) last ∙ ap (λ (n : ℕ). z .inbound (n - 1)) (agree .signals) in
+      ap₂ (λ (t u : ℕ). 2 * (t - u)) far (agree .inbound j l))

@@ -11,7 +11,7 @@ use Rattle.circle.proofs.Raised.{Fit}
 use Rattle.circle.proofs.Arcs.{Passes, where-some}
 use Rattle.circle.proofs.Since.{Stops, Rising}
 use Rattle.circle.proofs.Bound.{bound}
-use Rattle.circle.proofs.Reflection.{Patterned, outbound-inbound, inbound-outbound}
+use Rattle.circle.proofs.Reflection.{Patterned, likes}
 use Rattle.circle.proofs.Moving.{B⁺, equal-width, other-width}
 use Rattle.circle.proofs.Named.{Bands, meets}
 
@@ -43,16 +43,12 @@ module _ (s : Timed) (fit : Fit s) (stops : Stops s) (rising : Rising s) where
         )
 
   -- under offsets of the method's form, whatever the phases, neither band is above B
-  module _ (c : ℕ) (e f : ℕ → ℕ) (pattern : Patterned s c e f) where
-    pub outbound-most : (x v : ℕ) → Passes (outboundWay s f) x v → v ≤ equalWidth s
-    outbound-most x v out =
-        let (y, l, back) = outbound-inbound s (fit .turns) rising c e f pattern x v out in
-        omega (arith, equal-best f x y v v out back)
-
-    pub inbound-most : (y v : ℕ) → Passes (inboundWay s f) y v → v ≤ equalWidth s
-    inbound-most y v back =
-        let (x, l, out) = inbound-outbound s (fit .turns) rising c e f pattern y v back in
-        omega (arith, equal-best f x y v v out back)
+  pub neither : (c : ℕ) (e f : ℕ → ℕ) → Patterned s c e f → ((x v : ℕ) → Passes (outboundWay s f) x v → v ≤ equalWidth s) × ((y v : ℕ) → Passes (inboundWay s f) y v → v ≤ equalWidth s)
+  neither c e f pattern =
+      let (back-of, out-of) = likes s (fit .turns) rising c e f pattern in (
+        λ x v out. let (y, l, back) = back-of x v out in omega (arith, equal-best f x y v v out back),
+        λ y v back. let (x, l, out) = out-of y v back in omega (arith, equal-best f x y v v out back),
+      )
 
   -- named bands that make up 2B are the widest
   pub fill : (f : ℕ → ℕ) (v v′ : ℕ) → 1 ≤ v → 1 ≤ v′ → v + v′ + 2 * halves s ≡ 2 * B⁺ s → Bands s f v v′ → Widest (outboundWay s f) v × Widest (inboundWay s f) v′

@@ -107,11 +107,11 @@ module _ (s : Timed) (turns : 0 < s .cycle) (rising : Rising s) (c : ℕ) (e f :
       }
 
   -- each stretch one way has its like the other way
-  pub outbound-inbound : (x k : ℕ) → Passes (outboundWay s f) x k → (y : ℕ) × (y < halves s) × Passes (inboundWay s f) y k
-  outbound-inbound x k passes =
-      reflection (outboundWay s f) (outboundWay s f .lag) (inboundWay s f .lag) (fixed s c) x k around ways-mirror passes
-
-  pub inbound-outbound : (y k : ℕ) → Passes (inboundWay s f) y k → (x : ℕ) × (x < halves s) × Passes (outboundWay s f) x k
-  inbound-outbound y k passes =
-      let back = mirror-back (outboundWay s f) (outboundWay s f .lag) (inboundWay s f .lag) (fixed s c) ways-mirror in
-      reflection (outboundWay s f) (inboundWay s f .lag) (outboundWay s f .lag) (fixed s c) y k around back passes
+  pub likes : ((x k : ℕ) → Passes (outboundWay s f) x k → (y : ℕ) × (y < halves s) × Passes (inboundWay s f) y k) × ((y k : ℕ) → Passes (inboundWay s f) y k → (x : ℕ) × (x < halves s) × Passes (outboundWay s f) x k)
+  likes =
+      let out = outboundWay s f .lag in
+      let back = inboundWay s f .lag in
+      let a = fixed s c in (
+        λ x k. reflection (outboundWay s f) out back a x k around ways-mirror,
+        λ y k. reflection (outboundWay s f) back out a y k around (mirror-back (outboundWay s f) out back a ways-mirror),
+      )

@@ -13,7 +13,7 @@ use Rattle.street.specs.Checks.{planChecks}
 use Rattle.street.specs.Times.{linkTicks, roundedLink, m, timed}
 use Rattle.street.specs.declared.Verdict.the-variants.{Passed}
 use Rattle.street.proofs.Passed.{clear}
-use Rattle.street.proofs.Nearest.{outbound-near, inbound-near}
+use Rattle.street.proofs.Nearest.{link-near, out-marked, back-marked}
 use Rattle.promises.specs.Exact.{Fine, exactLink, exactTo}
 use Rattle.promises.proofs.Windows.{Window, from-first, to-last}
 pub use Rattle.promises.proofs.Streets.{fit, stops, rising}
@@ -48,7 +48,7 @@ module _ (l : Lists) (room : ℕ) (passed : planChecks l room ≡ Passed) where
               from-first N (signals l - 1) (linkTicks (l .distances) (l .outbound)) (exactLink N (l .distances) (l .outbound)) (roundedLink (l .distances) (l .outbound) (l .inbound))
               (λ k h.
               let slow = ok .outbound .slow k (omega (arith, ok .counts .outbound)) in
-              outbound-near (l .distances) (l .outbound) (l .inbound) N k (omega arith) (fine .outbound k h));
+              link-near (l .distances) (l .outbound) (l .inbound) N k (l .outbound) (out-marked (l .distances) (l .outbound) (l .inbound) N k) (omega arith) (fine .outbound k h));
         }
 
     pub inwards : Direction l N (inboundWay (timed l) (λ j. 0) .lag) (inboundWay (scaled N (timed l)) (λ j. 0) .lag) (λ j. exactTo N (l .distances) (l .inbound) (signals l - 1) - exactTo N (l .distances) (l .inbound) j)
@@ -60,5 +60,5 @@ module _ (l : Lists) (room : ℕ) (passed : planChecks l room ≡ Passed) where
               to-last N (signals l - 1) (linkTicks (l .distances) (l .inbound)) (exactLink N (l .distances) (l .inbound)) (roundedLink (l .distances) (l .outbound) (l .inbound))
               (λ k h.
               let slow = ok .inbound .slow k (omega (arith, ok .counts .inbound)) in
-              inbound-near (l .distances) (l .outbound) (l .inbound) N k (omega arith) (fine .inbound k h));
+              link-near (l .distances) (l .outbound) (l .inbound) N k (l .inbound) (back-marked (l .distances) (l .outbound) (l .inbound) N k) (omega arith) (fine .inbound k h));
         }

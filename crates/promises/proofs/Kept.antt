@@ -14,7 +14,7 @@ use Rattle.circle.proofs.Since.{along, Stops}
 use Rattle.circle.proofs.Reflection.{offset-patterned}
 use Rattle.circle.proofs.Named.{Named, Bands}
 use Rattle.circle.proofs.Planned.{equal-bands}
-use Rattle.circle.proofs.Best.{outbound-most, inbound-most, fill}
+use Rattle.circle.proofs.Best.{neither, fill}
 use Rattle.street.specs.Lists.{signals}
 use Rattle.street.specs.Times.{timed}
 use Rattle.plans.specs.Equal.{equalOffset}
@@ -101,8 +101,8 @@ reply-bands l entry exit r call code =
     let named = equal-bands s ok rise in
     let w = equalWidth s in
     let c = reference s in
-    let pattern = offset-patterned s c (omega (arith, ok .turns)) in
-    let both = widths s ok red f g (told .same) w w named (outbound-most s ok red rise c (phase s c) f pattern) (inbound-most s ok red rise c (phase s c) f pattern) in
+    let most = neither s ok red rise c (phase s c) f (offset-patterned s c (omega (arith, ok .turns))) in
+    let both = widths s ok red f g (told .same) w w named (most .0) (most .1) in
     subst (λ p. BandsKept s g (p .reference - 1) (p .starts) (p .outbound) (p .ends) (p .inbound) × (width (outboundWay s g) ≡ p .outbound) × (width (inboundWay s g) ≡ p .inbound)) (told .numbers)
     (subst (λ (k : ℕ). BandsKept s g k (redEnd s c (f c)) w (redStart s c (f c)) w × (width (outboundWay s g) ≡ w) × (width (inboundWay s g) ≡ w)) (counted c)
     (kept s ok red f g (told .same) w w named (λ p q. both), both .0, both .1))

@@ -9,10 +9,10 @@ use Rattle.circle.proofs.Arcs.{where-some}
 use Rattle.circle.proofs.Raised.{Fit}
 use Rattle.circle.proofs.Since.{Stops, Rising}
 use Rattle.circle.proofs.Bound.{bound-signed}
-use Rattle.circle.proofs.Reflection.{Patterned, offset-turns, offset-patterned, outbound-inbound, inbound-outbound}
+use Rattle.circle.proofs.Reflection.{Patterned, offset-turns, offset-patterned, likes}
 use Rattle.circle.proofs.Named.{Bands}
 use Rattle.circle.proofs.Planned.{equal-bands}
-use Rattle.circle.proofs.Best.{equal-best, outbound-most, inbound-most}
+use Rattle.circle.proofs.Best.{equal-best, neither}
 use Rattle.circle.proofs.Scale.{fit-scaled, stops-scaled, rising-scaled, equal-scaled}
 use Rattle.street.specs.Times.{timed}
 use Rattle.plans.specs.Equal.{equalOffset}
@@ -30,9 +30,9 @@ module _ (s : Timed) (ok : Fit s) (red : Stops s) (rise : Rising s) where
       let c = reference s in
       let v = equalWidth s in
       let named = equal-bands s ok rise in
-      let pattern = offset-patterned s c around in (
-        named-width s ok red f c (redEnd s c (f c)) 0 v (named .out) (outbound-most s ok red rise c (phase s c) f pattern),
-        named-width s ok red f c (redStart s c (f c)) v v (named .back) (inbound-most s ok red rise c (phase s c) f pattern),
+      let most = neither s ok red rise c (phase s c) f (offset-patterned s c around) in (
+        named-width s ok red f c (redEnd s c (f c)) 0 v (named .out) (most .0),
+        named-width s ok red f c (redStart s c (f c)) v v (named .back) (most .1),
       )
 
   -- of two bands the smaller is at most the reported width, since where one is not open it is 0
@@ -54,8 +54,8 @@ module _ (s : Timed) (ok : Fit s) (red : Stops s) (rise : Rising s) where
   mirror c e f either centre =
       let pattern : Patterned s c e f = record { either = either; centre = λ j l. offset-turns s c j (e j) (f j) around (centre j l) } in
       le-antisymm
-      (as-wide s ok red f (outbound-inbound s (ok .turns) rise c e f pattern))
-      (as-wide s ok red f (inbound-outbound s (ok .turns) rise c e f pattern))
+      (as-wide s ok red f (likes s (ok .turns) rise c e f pattern .0))
+      (as-wide s ok red f (likes s (ok .turns) rise c e f pattern .1))
 
 -- every departure in the named bands of a plan meets no red
 pub bands-clear : (s : Timed) → Fit s → (f : ℕ → ℕ) (v v′ : ℕ) → Bands s f v v′ → BandsClear s f v v′

@@ -13,7 +13,7 @@ use Rattle.circle.proofs.Scale.{scaled, equal-scaled, other-scaled, patterned-s
 use Rattle.circle.proofs.Moving.{B⁺, asked, other-width}
 use Rattle.circle.proofs.Named.{Bands}
 use Rattle.circle.proofs.Planned.{equal-bands, outbound-bands, inbound-bands}
-use Rattle.circle.proofs.Best.{beside, outbound-most, inbound-most}
+use Rattle.circle.proofs.Best.{beside, neither}
 use Rattle.street.specs.Lists.{Lists, signals}
 use Rattle.street.specs.Checks.{planChecks}
 use Rattle.street.specs.Times.{m, timed}
@@ -43,11 +43,12 @@ module _ (l : Lists) (room : ℕ) (passed : planChecks l room ≡ Passed) (N : �
       let rise = rising-fine l room passed N fine in
       let named = equal-bands s (fit l room passed) (rising l room passed) in
       let is = equal-scaled N s (fine .some) (fit l room passed) in
-      let pattern : Patterned (scaled N s) c e f⁺ = patterned-scaled N s c (phase s c) f (offset-patterned s c (omega (arith, fit l room passed .turns))) in (
+      let pattern : Patterned (scaled N s) c e f⁺ = patterned-scaled N s c (phase s c) f (offset-patterned s c (omega (arith, fit l room passed .turns))) in
+      let most = neither (scaled N s) ok red rise c e f⁺ pattern in (
         named-exact l room passed N fine (outwards l room passed N fine) f g same nothing c (redEnd s c (f c)) 0 v (named .out)
-            (λ x k p. omega (arith, is, outbound-most (scaled N s) ok red rise c e f⁺ pattern x k p)),
+            (λ x k p. omega (arith, is, most .0 x k p)),
         named-exact l room passed N fine (inwards l room passed N fine) f g same nothing c (redStart s c (f c)) v v (named .back)
-            (λ y k p. omega (arith, is, inbound-most (scaled N s) ok red rise c e f⁺ pattern y k p)),
+            (λ y k p. omega (arith, is, most .1 y k p)),
       )
 
   -- beside an exact band of w or more, either way

@@ -62,14 +62,22 @@ mark-right true q e = refl
 mark-right false true e = sym e
 mark-right false false e = refl
 
--- link k of a street, outbound and inbound, under the one mark that m counts
+-- link k of a street, in a direction whose rounding the one mark counts that m counts
 module _ (distances outbound inbound : List ℕ) (N k : ℕ) where
-  pub outbound-near : 0 < getD outbound k 0 → 20 * linkLength distances k * N % getD outbound k 0 ≡ 0 → apart (2 * (N * linkTicks distances outbound k)) (20 * linkLength distances k * N / getD outbound k 0) ≤ N * cond (roundedLink distances outbound inbound k) 1 0
-  outbound-near some fine =
-      let d = linkLength distances k in
-      link N d (getD outbound k 0) _ some fine (mark-left (whole d (getD outbound k 0)) (not (whole d (getD inbound k 0))))
+  pub Marked : ℕ → Type 0
+  Marked speed = whole (linkLength distances k) speed ≡ false → roundedLink distances outbound inbound k ≡ true
 
-  pub inbound-near : 0 < getD inbound k 0 → 20 * linkLength distances k * N % getD inbound k 0 ≡ 0 → apart (2 * (N * linkTicks distances inbound k)) (20 * linkLength distances k * N / getD inbound k 0) ≤ N * cond (roundedLink distances outbound inbound k) 1 0
-  inbound-near some fine =
-      let d = linkLength distances k in
-      link N d (getD inbound k 0) _ some fine (mark-right (not (whole d (getD outbound k 0))) (whole d (getD inbound k 0)))
+  pub link-near : (speeds : List ℕ) → Marked (getD speeds k 0) → 0 < getD speeds k 0 → 20 * linkLength distances k * N % getD speeds k 0 ≡ 0 → apart (2 * (N * linkTicks distances speeds k)) (20 * linkLength distances k * N / getD speeds k 0) ≤ N * cond (roundedLink distances outbound inbound k) 1 0
+  unfolding Marked
+  link-near speeds marked some fine = link N (linkLength distances k) (getD speeds k 0) _ some fine marked
+
+  -- outbound and inbound are such directions
+  pub out-marked : Marked (getD outbound k 0)
+  unfolding Marked
+  out-marked =
+      mark-left (whole (linkLength distances k) (getD outbound k 0)) (not (whole (linkLength distances k) (getD inbound k 0)))
+
+  pub back-marked : Marked (getD inbound k 0)
+  unfolding Marked
+  back-marked =
+      mark-right (not (whole (linkLength distances k) (getD outbound k 0))) (whole (linkLength distances k) (getD inbound k 0))
