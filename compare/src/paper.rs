@@ -105,53 +105,60 @@ pub fn measured(moved: &[i64], alone: &[i64]) -> Vec<String> {
     ]
 }
 
+/// Euclid Avenue's three sheets, by the ends of their names: as printed, in seconds, and fitted.
+const EUCLID: [&str; 3] = ["", "-seconds", "-fitted"];
+
 pub fn euclid() -> Vec<String> {
-    let [printed, in_seconds, fitted] =
-        ["", "-seconds", "-fitted"].map(|end| street(&format!("paper-euclid{end}.txt")));
-    let mut told = vec![];
-    for (street, places, mark) in [(&printed, 1, ','), (&in_seconds, 2, ','), (&fitted, 1, ':')] {
+    let streets = EUCLID.map(|end| street(&format!("paper-euclid{end}.txt")));
+    let [printed, in_seconds, fitted] = &streets;
+    let mut told = euclid_widths([(printed, 1, ','), (in_seconds, 2, ','), (fitted, 1, ':')]);
+    told.extend(euclid_by_hand(printed, fitted));
+    told.extend(euclid_platoons(printed, fitted));
+    told.extend(EUCLID.map(|end| format!("| `paper-euclid{end}.txt` | `platoons 390 130` |")));
+    told
+}
+
+/// B of each sheet, with the places that the page gives it and the mark after it.
+fn euclid_widths(streets: [(&Street, u32, char); 3]) -> Vec<String> {
+    let told = |(street, places, mark): (&Street, u32, char)| {
         let best = i128::from(asked(street, Ask::Equal).best);
-        let [s, cycles] = [decimal(best, 20, places), decimal(best, 1_300, 4)];
-        told.push(format!("{best} halves{mark} {s} s or {cycles} cycles"));
         // The formula of the page, in halves: signals 1 and 2 limit the band, half a cycle and 110 ticks apart.
         assert_eq!(i128::from(650 + 2 * Times::of(street).t(0, 1) - street.reds[0] - street.reds[1]), best);
-    }
-    // The same in thousandths of a half, from the sum of the two reds in thousandths of a cycle.
+        let [s, cycles] = [decimal(best, 20, places), decimal(best, 1_300, 4)];
+        format!("{best} halves{mark} {s} s or {cycles} cycles")
+    };
+    streets.map(told).to_vec()
+}
+
+fn euclid_by_hand(printed: &Street, fitted: &Street) -> Vec<String> {
+    // B in thousandths of a half, from the sum of the two reds in thousandths of a cycle.
     let by_hand = |reds: i128| 870_000 - 650 * reds;
     let [middle, least, most] = [870, 880, 860].map(|reds| decimal(by_hand(reds), 1_300_000, 4));
-    let [of_printed, of_fitted] = [&printed, &fitted].map(|street| asked(street, Ask::Platoons(390, 130)));
-    let in_s = |width: i64| decimal(width.into(), 20, 1);
-    let (wide, narrow) = (of_printed.outbound, of_printed.inbound);
-    let m = Times::of(&printed).not_whole;
-    told.extend([
-        format!("each link takes a whole number of seconds and m is {m}."),
+    let (whole, exact) = (decimal(870, 1_300, 4), decimal(by_hand(870), 1_000, 1));
+    let times = Times::of(printed);
+    vec![
+        format!("each link takes a whole number of seconds and m is {}.", times.not_whole),
         "signals 1 and 2 limit the band.".to_string(),
-        format!("are {} s from each other", Times::of(&printed).t(0, 1) / 10),
-        format!(
-            "B = 0.5 + 11/65 - (r(1) + r(2)) / 2 = {} - (0.47 + 0.40) / 2 = {middle} cycles",
-            decimal(870, 1_300, 4)
-        ),
-        format!(
-            "cycles or {} halves; rounding the red of 305.5 ticks to 306 makes it 304.",
-            decimal(by_hand(870), 1_000, 1)
-        ),
+        format!("are {} s from each other", times.t(0, 1) / 10),
+        format!("B = 0.5 + 11/65 - (r(1) + r(2)) / 2 = {whole} - (0.47 + 0.40) / 2 = {middle} cycles"),
+        format!("cycles or {exact} halves; rounding the red of 305.5 ticks to 306 makes it 304."),
         format!("between {least} and {most}."),
         format!("signal 1 is red for {} ticks and signal 2 for {}.", fitted.reds[0], fitted.reds[1]),
+    ]
+}
+
+fn euclid_platoons(printed: &Street, fitted: &Street) -> Vec<String> {
+    let [printed, fitted] = [printed, fitted].map(|street| asked(street, Ask::Platoons(390, 130)));
+    let in_s = |width: i64| decimal(width.into(), 20, 1);
+    let (wide, narrow) = (printed.outbound, printed.inbound);
+    let (out, back) = (fitted.outbound, fitted.inbound);
+    vec![
         "The platoons are 390 and 130 halves, together 520, at most 2B.".to_string(),
         "the larger side gets 2B * 390 / 520, one and a half times B".to_string(),
         format!("{wide} halves or {} s with the reds as printed", in_s(wide)),
         format!("and the other side keeps {narrow}, {} s.", in_s(narrow)),
-        format!(
-            "is {} s, which the fitted sheet gives: {} and {} halves.",
-            in_s(of_fitted.outbound),
-            of_fitted.outbound,
-            of_fitted.inbound
-        ),
-    ]);
-    told.extend(
-        ["", "-seconds", "-fitted"].map(|end| format!("| `paper-euclid{end}.txt` | `platoons 390 130` |")),
-    );
-    told
+        format!("is {} s, which the fitted sheet gives: {out} and {back} halves.", in_s(out)),
+    ]
 }
 
 pub fn quarter() -> Vec<String> {
