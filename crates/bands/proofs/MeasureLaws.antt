@@ -27,10 +27,10 @@ use Rattle.street.specs.declared.Verdict.the-variants as verdict
 use Rattle.bands.specs.declared.Band.{Band}
 use Rattle.bands.specs.declared.Direction.{Direction}
 use Rattle.bands.specs.declared.Measurement.{Measurement}
-use Rattle.bands.specs.Search.{lagOf, endOf, Onward, OnCycle, seen}
+use Rattle.bands.specs.Search.{lagOf, endOf, Onward, seen}
 use Rattle.bands.specs.Measure.{offsetCheck, bandOf, measuredOf, foundOr, measurementOf}
 use Rattle.bands.specs.declared.Measurement.the-variants as measurement
-use Rattle.bands.proofs.SearchLaws.{seen-alike, band-alike}
+use Rattle.bands.proofs.SearchLaws.{OnCycle, seen-alike, band-alike}
 use Rattle.bands.proofs.CheckLaws.{checks-short, checks-full}
 
 -- a direction's way under given offsets

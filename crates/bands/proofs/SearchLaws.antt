@@ -24,7 +24,7 @@ use Rattle.circle.proofs.Alike.{past, Alike, width-alike, start-alike}
 use Rattle.street.specs.Streets.{timedStreet, Sound}
 use Rattle.street.specs.declared.Street.{Street}
 use Rattle.bands.specs.declared.Band.{Band}
-use Rattle.bands.specs.Search.{OnCycle, Fitting, seenBy, seen, leftBy, widerOf}
+use Rattle.bands.specs.Search.{Fitting, seenBy, seen, leftBy, widerOf}
 use Rattle.bands.specs.Measure.{bandOf}
 
 -- the wider of two bands, from the code's tests
@@ -122,6 +122,10 @@ module _ (h n : ℕ) (red : ℕ → ℕ) (ends : List ℕ) (ok : Fitting h n red
       let w = seenBy h n red ends in
       let is = best-band w proper-seen 0 some (omega (arith, ok .stops 0 some)) (b .width) (b .start) best in
       λ i. record { width = is .wide i; start = is .starts i }
+
+-- an instant on the cycle for each signal, from 0 to H - 1
+pub record OnCycle (s : Street) (ends : List ℕ) : Type 0 where
+  pub each : (j : ℕ) → j < s .signals → getD ends j 0 < halves (timedStreet s)
 
 -- a sound street's reds fit its cycle
 pub fitting : (s : Street) (ends : List ℕ) → Sound s → OnCycle s ends → Fitting (halves (timedStreet s)) (s .signals) (timedStreet s .red) ends

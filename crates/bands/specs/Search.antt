@@ -37,10 +37,6 @@ pub record Placed (s : Street) (offsets : List ℕ) : Type 0 where
   pub count : length offsets ≡ s .signals
   pub each : (j : ℕ) → j < s .signals → getD offsets j 0 < halves (timedStreet s)
 
--- an instant on the cycle for each signal, from 0 to H - 1 (01, 'Units and the street')
-pub record OnCycle (s : Street) (ends : List ℕ) : Type 0 where
-  pub each : (j : ℕ) → j < s .signals → getD ends j 0 < halves (timedStreet s)
-
 -- at each of n signals a red that takes some of a cycle of h halves and not all of it, and an instant on the cycle at which it ends (01, 'Units and the street')
 pub record Fitting (h n : ℕ) (red : ℕ → ℕ) (ends : List ℕ) : Type 0 where
   pub turns : 0 < h

@@ -64,8 +64,13 @@ fn bands(s: Street, offsets: &[u32]) -> Measured
     requires { ⌜ Sound s × Onward s × Placed s (now offsets) ⌝ }
     ensures { λ r. ⌜ r ≡ measuredOf (timedStreet s) (now (offsets .entry)) ⌝ }
 {
-    let out = stretches::band(s, ends::ends(s, offsets, Direction::Outbound));
-    let back = stretches::band(s, ends::ends(s, offsets, Direction::Inbound));
+    let n = s.signals;
+    let h = 2 * s.cycle;
+    let reds = s.reds;
+    let out_ends = ends::ends(s, offsets, Direction::Outbound);
+    let out = stretches::band(h, n, &reds, &out_ends);
+    let back_ends = ends::ends(s, offsets, Direction::Inbound);
+    let back = stretches::band(h, n, &reds, &back_ends);
     Measured {
         outbound: out,
         inbound: back,

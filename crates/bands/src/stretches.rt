@@ -1,13 +1,11 @@
 // The longest stretch there is, from the red ends as they are seen where a direction departs. Only red ends need be tried as starts:
 // each is held against every signal, by comparisons and differences alone.
 use crate::Band;
-use street::Street;
 ghost use mathlib.Core.Path.{_≡_};
 ghost use Prim.Native.Nat.{_≤_, _<_};
 ghost use lib.ListN.{getD};
 ghost use Rattle.street.specs.Limits.{maxSignals};
-ghost use Rattle.street.specs.Streets.{timedStreet, Sound};
-ghost use Rattle.bands.specs.Search.{seen, seenBy, Fitting, OnCycle, longestFrom, leftBy, widerOf};
+ghost use Rattle.bands.specs.Search.{seenBy, Fitting, longestFrom, leftBy, widerOf};
 ghost use Rattle.bands.specs.Measure.{bandOf};
 
 // What a red leaves of the cycle for a stretch from x on.
@@ -56,18 +54,15 @@ fn wider(best: Band, other: Band) -> Band
 }
 
 // The band: the widest of the stretches from the red ends, the smallest start among equals.
-pub fn band(s: Street, ends: [u32; 32]) -> Band
-    requires { ⌜ Sound s × OnCycle s ends ⌝ }
-    ensures { λ r. ⌜ r ≡ bandOf (seen (timedStreet s) ends) ⌝ }
+pub fn band(h: u32, n: usize, reds: &[u32; 32], ends: &[u32; 32]) -> Band
+    requires { ⌜ (h ≤ 12000) × (1 ≤ n) × (n ≤ maxSignals) × Fitting h n (λ j. getD (now reds) j 0) (now ends) ⌝ }
+    ensures { λ r. ⌜ r ≡ bandOf (seenBy h n (λ j. getD (now (reds .entry)) j 0) (now (ends .entry))) ⌝ }
 {
-    let n = s.signals;
-    let h = 2 * s.cycle;
-    let reds = s.reds;
     let mut best = Band { width: 0, start: 0 };
     let mut i: usize = 0;
     while i < n {
         let start = ends[i];
-        let width = longest(h, n, &reds, &ends, start);
+        let width = longest(h, n, reds, ends, start);
         best = wider(best, Band { width, start });
         i += 1;
     }
