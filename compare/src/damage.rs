@@ -127,18 +127,15 @@ fn a_number(random: &mut Random, bytes: &mut Vec<u8>) {
     replace(bytes, at, if instead { count } else { 0 }, with);
 }
 
-/// A space doubled, lost, at a line's start or end, or another kind of space.
+/// What is put in the place of a space, or of a line end: a space doubled, lost, at a line's start or end, or of another
+/// kind.
+const SPACES: [(u8, &[u8]); 6] =
+    [(b' ', b"  "), (b' ', b""), (b' ', b"\t"), (10, b" \n"), (10, b"\n "), (b' ', &[0xc2, 0xa0])];
+
 fn spaces(random: &mut Random, bytes: &mut Vec<u8>) {
-    let at = random.pick(&places(bytes, b' '));
-    let end = random.pick(&places(bytes, 10));
-    match random.below(6) {
-        0 => replace(bytes, at, 1, b"  "),
-        1 => replace(bytes, at, 1, b""),
-        2 => replace(bytes, at, 1, b"\t"),
-        3 => replace(bytes, end, 1, b" \n"),
-        4 => replace(bytes, end, 1, b"\n "),
-        _ => replace(bytes, at, 1, &[0xc2, 0xa0]),
-    }
+    let (of, with) = random.pick(&SPACES);
+    let at = random.pick(&places(bytes, of));
+    replace(bytes, at, 1, with);
 }
 
 /// A line lost, doubled, with one number more, or two lines changed about.

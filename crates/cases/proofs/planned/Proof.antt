@@ -1,4 +1,4 @@
--- `cases::replies::planned` meets its contract: each part that is lent is within its array, and the printed text within its buffer. Assumes nothing.
+-- `cases::planned` meets its contract: each part that is lent is within its array, and the printed text within its buffer. Assumes nothing.
 use Prim.Native.Nat.{_-_}
 use mathlib.Core.Path.{sym}
 use native.Mathlib.Omega.{arith}
@@ -6,8 +6,8 @@ use lib.Seq.{length-take-le}
 use lib.ListN.{replicate}
 use borrow.Author.Needs.{needs}
 use Rattle.printed.proofs.Ways.{text-within}
-use Rattle.cases.proofs.replies.planned.Statement.{statement}
-use Rattle.cases.proofs.replies.planned.Tie as tie
+use Rattle.cases.proofs.planned.Statement.{statement}
+use Rattle.cases.proofs.planned.Tie as tie
 
 sub-links : tie.Need-sub-links
 sub-links c = search needs

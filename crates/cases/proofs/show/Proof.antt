@@ -1,9 +1,9 @@
--- `cases::replies::show` meets its contract: the text is a part of its buffer. Assumes nothing.
+-- `cases::show` meets its contract: the text is a part of its buffer. Assumes nothing.
 use mathlib.Core.Path.{sym}
 use lib.Seq.{length-take-le}
 use borrow.Author.Needs.{needs}
-use Rattle.cases.proofs.replies.show.Statement.{statement}
-use Rattle.cases.proofs.replies.show.Tie as tie
+use Rattle.cases.proofs.show.Statement.{statement}
+use Rattle.cases.proofs.show.Tie as tie
 
 array-share-prefix-bytes : tie.Need-array-share-prefix-bytes
 array-share-prefix-bytes c = search needs

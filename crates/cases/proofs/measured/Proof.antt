@@ -1,11 +1,11 @@
--- `cases::replies::measured` meets its contract: each part that is lent is within its array. Assumes nothing.
+-- `cases::measured` meets its contract: each part that is lent is within its array. Assumes nothing.
 use Prim.Native.Nat.{_-_}
 use mathlib.Core.Path.{sym}
 use native.Mathlib.Omega.{arith}
 use lib.Seq.{length-take-le}
 use borrow.Author.Needs.{needs}
-use Rattle.cases.proofs.replies.measured.Statement.{statement}
-use Rattle.cases.proofs.replies.measured.Tie as tie
+use Rattle.cases.proofs.measured.Statement.{statement}
+use Rattle.cases.proofs.measured.Tie as tie
 
 sub-links : tie.Need-sub-links
 sub-links c = search needs

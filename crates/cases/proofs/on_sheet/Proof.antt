@@ -1,8 +1,8 @@
--- `cases::replies::on_sheet` meets its contract: an accepted sheet's arrays are whole. Assumes nothing.
+-- `cases::on_sheet` meets its contract: an accepted sheet's arrays are whole. Assumes nothing.
 use borrow.Author.Needs.{needs}
 use Rattle.printed.proofs.Ways.{reading-held}
-use Rattle.cases.proofs.replies.on_sheet.Statement.{statement}
-use Rattle.cases.proofs.replies.on_sheet.Tie as tie
+use Rattle.cases.proofs.on_sheet.Statement.{statement}
+use Rattle.cases.proofs.on_sheet.Tie as tie
 
 read-requires : tie.Need-read-requires
 read-requires c κs = search needs

@@ -1,8 +1,8 @@
--- `cases::replies::show_refusal` meets its contract: a printed text lies within its buffer. Assumes nothing.
+-- `cases::show_refusal` meets its contract: a printed text lies within its buffer. Assumes nothing.
 use borrow.Author.Needs.{needs}
 use Rattle.printed.proofs.Ways.{text-within}
-use Rattle.cases.proofs.replies.show_refusal.Statement.{statement}
-use Rattle.cases.proofs.replies.show_refusal.Tie as tie
+use Rattle.cases.proofs.show_refusal.Statement.{statement}
+use Rattle.cases.proofs.show_refusal.Tie as tie
 
 answer-text-requires : tie.Need-answer-text-requires
 answer-text-requires c κs = search needs

@@ -1,8 +1,8 @@
--- `cases::replies::reply` meets its contract: the sheet starts within the case, and the printed text lies within its buffer. Assumes nothing.
+-- `cases::reply` meets its contract: the sheet starts within the case, and the printed text lies within its buffer. Assumes nothing.
 use borrow.Author.Needs.{needs}
 use Rattle.printed.proofs.Ways.{text-within}
-use Rattle.cases.proofs.replies.reply.Statement.{statement}
-use Rattle.cases.proofs.replies.reply.Tie as tie
+use Rattle.cases.proofs.reply.Statement.{statement}
+use Rattle.cases.proofs.reply.Tie as tie
 
 request-requires : tie.Need-request-requires
 request-requires c κs = search needs
