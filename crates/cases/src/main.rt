@@ -19,13 +19,26 @@ ghost use Rattle.printed.specs.Way.{Held};
 // The most bytes that one run takes.
 const MAX_INPUT: usize = 65_536;
 
+// Tells on standard error, where the program says nothing else, that a part of a reply was lost: a program of the kit has no exit status
+// of its own.
+fn noted(written: bool) {
+    if !written {
+        io::write_all(2, b"cases: a reply could not be written\n");
+    }
+}
+
+// Writes bytes of a reply.
+fn put(bytes: &[u8]) {
+    noted(io::write_all(1, bytes));
+}
+
 // Writes a text, which lies within its buffer.
 fn show(text: Printed)
     requires { ⌜ text .count ≤ length (text .bytes) ⌝ }
 {
     let bytes = text.bytes;
     let count = text.count;
-    io::write_all(1, &bytes[..count]);
+    put(&bytes[..count]);
 }
 
 fn show_refusal(f: Refusal) {
@@ -33,10 +46,10 @@ fn show_refusal(f: Refusal) {
 }
 
 fn show_band(band: Band, end: &[u8]) {
-    io::print_decimal(1, band.width as u64);
-    io::write_all(1, b" ");
-    io::print_decimal(1, band.start as u64);
-    io::write_all(1, end);
+    noted(io::print_decimal(1, band.width as u64));
+    put(b" ");
+    noted(io::print_decimal(1, band.start as u64));
+    put(end);
 }
 
 // The measure of some offsets on a sheet's street.
@@ -148,7 +161,7 @@ fn reply(case: &[u8]) {
     let numbers = asked.numbers;
     match call {
         Call::Bad => {
-            io::write_all(1, b"bad request\n");
+            put(b"bad request\n");
         }
         Call::Equal => show(printed::equal_text(&case[at..], asked.room)),
         Call::Outbound => on_sheet(&case[at..], call, asked.room, asked.count, numbers),
@@ -156,7 +169,7 @@ fn reply(case: &[u8]) {
         Call::Platoons => on_sheet(&case[at..], call, asked.room, asked.count, numbers),
         Call::Measure => on_sheet(&case[at..], call, asked.room, asked.count, numbers),
     }
-    io::write_all(1, b"\n");
+    put(b"\n");
 }
 
 // Where the case that starts at an index ends: at the next byte 0, or at the end.
@@ -187,7 +200,7 @@ fn main() {
     let mut input = [0u8; 65537];
     let got = io::read_full(0, &mut input);
     if got > MAX_INPUT {
-        io::write_all(1, b"too long\n");
+        put(b"too long\n");
         return;
     }
     run(&input[..got]);

@@ -6,11 +6,14 @@ ghost use Rattle.street.specs.Limits.{maxSignals};
 ghost use Rattle.printed.specs.Way.{equalText};
 
 // Writes the text that answers a sheet. No contract can tell what is written; so that the text answers the bytes beside it is asked for
-// here, at the one place where the program writes.
+// here, at the one place where the program writes. A program of the kit has no exit status of its own: a text that is lost, or a part of
+// it, is told on standard error, where the program says nothing else.
 fn send(sheet: &[u8], text: &[u8])
     requires { ⌜ now text ≡ equalText (now sheet) maxSignals ⌝ }
 {
-    io::write_all(1, text);
+    if !io::write_all(1, text) {
+        io::write_all(2, b"plan: the answer could not be written\n");
+    }
 }
 
 fn main() {

@@ -10,11 +10,11 @@ request-requires c κs = search needs
 enum-told : tie.Need-enum-told
 enum-told c = search needs
 
-slice-aggregate-write-all : tie.Need-slice-aggregate-write-all
-slice-aggregate-write-all c = search needs
+slice-aggregate-put : tie.Need-slice-aggregate-put
+slice-aggregate-put c = search needs
 
-write-all-requires : tie.Need-write-all-requires
-write-all-requires c κs = search needs
+put-requires : tie.Need-put-requires
+put-requires c κs = search needs
 
 enum-told-2 : tie.Need-enum-told-2
 enum-told-2 c = search needs
@@ -94,11 +94,11 @@ part-on-sheet-end-4 c = search needs
 on-sheet-requires-4 : tie.Need-on-sheet-requires-4
 on-sheet-requires-4 c κs = search needs
 
-slice-aggregate-write-all-2 : tie.Need-slice-aggregate-write-all-2
-slice-aggregate-write-all-2 c = search needs
+slice-aggregate-put-2 : tie.Need-slice-aggregate-put-2
+slice-aggregate-put-2 c = search needs
 
-write-all-requires-2 : tie.Need-write-all-requires-2
-write-all-requires-2 c κs = search needs
+put-requires-2 : tie.Need-put-requires-2
+put-requires-2 c κs = search needs
 
 returns : tie.Need-returns
 returns c = search needs
@@ -109,8 +109,8 @@ reply-spec =
     (tie.spec
     request-requires
     enum-told
-    slice-aggregate-write-all
-    write-all-requires
+    slice-aggregate-put
+    put-requires
     enum-told-2
     sub-equal-text
     part-equal-text-start
@@ -137,6 +137,6 @@ reply-spec =
     part-on-sheet-start-4
     part-on-sheet-end-4
     on-sheet-requires-4
-    slice-aggregate-write-all-2
-    write-all-requires-2
+    slice-aggregate-put-2
+    put-requires-2
     returns)

@@ -8,11 +8,11 @@ use Rattle.cases.proofs.show.Tie as tie
 array-share-prefix-bytes : tie.Need-array-share-prefix-bytes
 array-share-prefix-bytes c = search needs
 
-slice-aggregate-write-all : tie.Need-slice-aggregate-write-all
-slice-aggregate-write-all c = sym (length-take-le (c .before .before .args .text .count) (c .before .before .args .text .bytes) (c .before .before .pre))
+slice-aggregate-put : tie.Need-slice-aggregate-put
+slice-aggregate-put c = sym (length-take-le (c .before .before .args .text .count) (c .before .before .args .text .bytes) (c .before .before .pre))
 
-write-all-requires : tie.Need-write-all-requires
-write-all-requires c κs = search needs
+put-requires : tie.Need-put-requires
+put-requires c κs = search needs
 
 returns : tie.Need-returns
 returns c = search needs
@@ -20,4 +20,4 @@ returns c = search needs
 pub show-spec : {M : Type 1} → statement M
 show-spec =
     tie.close
-    (tie.spec array-share-prefix-bytes slice-aggregate-write-all write-all-requires returns)
+    (tie.spec array-share-prefix-bytes slice-aggregate-put put-requires returns)
