@@ -2,9 +2,9 @@
 //!
 //! The model (`street`, `equal`, `moved`, `bands`, `named`, `exact`, `sheet`, `printed`, `cases`, `client`) follows the
 //! rules' signed formulas as they stand, by brute force, and shares nothing with the proved crates. The rest makes
-//! sheets and requests (`random`, `streets`, `limits`, `damage`, `offsets`, `asks`), runs the programs on them (`run`)
-//! and compares (`trial`, `hold`, `coverage`, `asked`, `tally`); `page`, `paper` and `decimal` read the pages whose
-//! sheets and tables are run.
+//! sheets and requests (`random`, `streets`, `limits`, `damage`, `offsets`, `asks`), runs the programs and the scripts
+//! on them (`run`, `scripts`) and compares (`trial`, `hold`, `coverage`, `asked`, `tally`); `page`, `paper` and
+//! `decimal` read the pages whose sheets and tables are run, and `pencil` works out what a page does by hand.
 
 pub mod asked;
 pub mod asks;
@@ -23,9 +23,11 @@ pub mod named;
 pub mod offsets;
 pub mod page;
 pub mod paper;
+pub mod pencil;
 pub mod printed;
 pub mod random;
 pub mod run;
+pub mod scripts;
 pub mod sheet;
 pub mod street;
 pub mod streets;

@@ -16,8 +16,14 @@ pub struct Sample {
     pub line: usize,
 }
 
-const MARKS: [(&str, &[u8]); 5] =
-    [("<CR>", b"\r"), ("<TAB>", b"\t"), ("<SPACE>", b" "), ("<BOM>", b"\xef\xbb\xbf"), ("<END>\n", b"")];
+const MARKS: [(&str, &[u8]); 6] = [
+    ("<CR>", b"\r"),
+    ("<TAB>", b"\t"),
+    ("<SPACE>", b" "),
+    ("<NBSP>", b"\xc2\xa0"),
+    ("<BOM>", b"\xef\xbb\xbf"),
+    ("<END>\n", b""),
+];
 
 /// The header of a table that types one line of the page's first sheet otherwise.
 pub const SLIPS: &str = "| Line | Typed instead | Prints | Mend |";
@@ -113,5 +119,10 @@ impl Page {
             Sample { sheet: bytes(&shown), prints: format!("{}\n", cells[2]), line: at }
         };
         self.rows(SLIPS).into_iter().map(slip).collect()
+    }
+
+    /// All sheets of the page.
+    pub fn samples(&self) -> Vec<Sample> {
+        self.blocks().into_iter().chain(self.slips()).collect()
     }
 }

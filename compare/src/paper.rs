@@ -81,7 +81,7 @@ pub fn sample(page: &Page) -> Vec<String> {
         "The platoon of 614 halves is more than 2B".to_string(),
         format!("Our outbound width of {} is also the measured one.", alone.outbound),
         format!("g = 1300 - 2 * 310 = {g} halves, {} s", g / 20),
-        "(echo 'platoons 144 433'; cat sheets/paper-sample.txt)".to_string(),
+        "./ask platoons 144 433 sheets/paper-sample.txt".to_string(),
         format!("{} s later, the third of a half", decimal(1, 60, 4)),
     ];
     for (out, back) in [(289, 289), (144, 433), (0, 614)] {

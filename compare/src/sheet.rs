@@ -9,12 +9,35 @@ pub const STREET_A: &[u8] = b"1\n100\n2\n0 40\n30000 50\n1\n10000 15000\n";
 
 const SHEET: Refusal = Refusal { code: 1, place: 0 };
 
-/// Takes the next whole line, without its line end, off the text. Bytes with no line end are no line.
-fn line<'a>(text: &mut &'a [u8]) -> Result<&'a [u8], Refusal> {
-    let end = text.iter().position(|&byte| byte == 10).ok_or(SHEET)?;
-    let (line, rest) = (&text[..end], &text[end + 1..]);
-    *text = rest;
-    Ok(line)
+/// The text that is still to be read, and the number of the line at which reading stands.
+struct Lines<'a> {
+    text: &'a [u8],
+    line: usize,
+}
+
+impl<'a> Lines<'a> {
+    fn of(text: &'a [u8]) -> Lines<'a> {
+        Lines { text, line: 0 }
+    }
+
+    /// Takes the next whole line, without its line end, off the text. Bytes with no line end are no line.
+    fn next(&mut self) -> Result<&'a [u8], Refusal> {
+        self.line += 1;
+        let end = self.text.iter().position(|&byte| byte == 10).ok_or(SHEET)?;
+        let (line, rest) = (&self.text[..end], &self.text[end + 1..]);
+        self.text = rest;
+        Ok(line)
+    }
+
+    /// Nothing follows the last line.
+    fn end(&mut self) -> Result<(), Refusal> {
+        self.line += 1;
+        if self.text.is_empty() {
+            Ok(())
+        } else {
+            Err(SHEET)
+        }
+    }
 }
 
 fn number(digits: &[u8]) -> Result<i64, Refusal> {
@@ -26,8 +49,8 @@ fn number(digits: &[u8]) -> Result<i64, Refusal> {
 }
 
 /// The numbers of the next line, which has exactly as many as there are columns.
-fn columns<const COLUMNS: usize>(text: &mut &[u8]) -> Result<[i64; COLUMNS], Refusal> {
-    let fields: Vec<&[u8]> = line(text)?.split(|&byte| byte == b' ').collect();
+fn columns<const COLUMNS: usize>(lines: &mut Lines) -> Result<[i64; COLUMNS], Refusal> {
+    let fields: Vec<&[u8]> = lines.next()?.split(|&byte| byte == b' ').collect();
     let numbers = fields.into_iter().map(number).collect::<Result<Vec<i64>, Refusal>>()?;
     numbers.try_into().map_err(|_| SHEET)
 }
@@ -37,33 +60,39 @@ pub fn read(bytes: &[u8]) -> Result<Street, Refusal> {
     if bytes.len() > LARGEST_SHEET {
         return Err(SHEET);
     }
-    let mut text = bytes;
-    let [1] = columns(&mut text)? else { return Err(SHEET) };
-    let [cycle] = columns(&mut text)?;
+    read_lines(&mut Lines::of(bytes))
+}
+
+/// The line on which the first fault of a sheet stands, however long the sheet is.
+pub fn fault_line(bytes: &[u8]) -> Option<usize> {
+    let mut lines = Lines::of(bytes);
+    read_lines(&mut lines).err().map(|_| lines.line)
+}
+
+fn read_lines(lines: &mut Lines) -> Result<Street, Refusal> {
+    let [1] = columns(lines)? else { return Err(SHEET) };
+    let [cycle] = columns(lines)?;
     let mut street = Street { cycle, reds: vec![], distances: vec![], outbound: vec![], inbound: vec![] };
-    let [signals] = columns(&mut text)?;
+    let [signals] = columns(lines)?;
     if signals < 1 || signals > MAX_SIGNALS as i64 {
         return Err(refusal(2, 0));
     }
     for _ in 0..signals {
-        let [distance, red] = columns(&mut text)?;
+        let [distance, red] = columns(lines)?;
         street.distances.push(distance);
         street.reds.push(red);
     }
-    let [links] = columns(&mut text)?;
+    let [links] = columns(lines)?;
     if links != signals - 1 {
         return Err(refusal(2, 0));
     }
     for _ in 0..links {
-        let [outbound, inbound] = columns(&mut text)?;
+        let [outbound, inbound] = columns(lines)?;
         street.outbound.push(outbound);
         street.inbound.push(inbound);
     }
-    if text.is_empty() {
-        Ok(street)
-    } else {
-        Err(SHEET)
-    }
+    lines.end()?;
+    Ok(street)
 }
 
 /// A sheet of the street's lists with the counts as given, which need not be those of the lists.

@@ -14,7 +14,7 @@ use std::collections::BTreeSet;
 
 fn typists() -> (Page, Vec<Sample>) {
     let page = Page::open("SHEETS.md");
-    let samples = page.blocks().into_iter().chain(page.slips()).collect();
+    let samples = page.samples();
     (page, samples)
 }
 
@@ -23,7 +23,7 @@ fn the_typists_page_is_read_whole() {
     let (page, samples) = typists();
     let starts = |mark: &str| page.text.lines().filter(|line| line.starts_with(mark)).count();
     let blocks = page.blocks().len();
-    assert_eq!((blocks, page.slips().len()), (15, 21));
+    assert_eq!((blocks, page.slips().len()), (21, 21));
     assert_eq!((starts("Prints:"), starts("```sheet"), starts("```")), (blocks, blocks, 2 * blocks));
     let slips = page.text.lines().filter(|line| line.starts_with('|') && line.contains("| `refused"));
     assert_eq!(slips.count(), page.slips().len());

@@ -1,0 +1,121 @@
+//! The scripts that people start, `plan` and `ask`, and what they say of a sheet.
+
+use crate::run::repository;
+use std::fs;
+use std::io::Write;
+use std::path::PathBuf;
+use std::process::{Command, Stdio};
+use std::sync::atomic::{AtomicUsize, Ordering};
+use std::thread;
+
+/// How a script ended: its status, what it printed and what it said beside that.
+#[derive(Debug)]
+pub struct Ended {
+    pub status: Option<i32>,
+    pub printed: String,
+    pub said: String,
+}
+
+/// Starts a script of the repository with words and an input.
+pub fn script(name: &str, words: &[&str], input: &[u8]) -> Ended {
+    let program = if name == "ask" { "cases" } else { name };
+    fresh(program);
+    ended(Command::new(repository().join(name)).args(words).current_dir(repository()), input)
+}
+
+/// Runs a line of bash in the repository's folder, without input.
+pub fn bash(line: &str) -> Ended {
+    fresh("plan");
+    ended(Command::new("bash").args(["-c", line]).current_dir(repository()), b"")
+}
+
+/// Starts a command with an input, and waits for its end.
+pub fn ended(command: &mut Command, input: &[u8]) -> Ended {
+    let pipes = command.stdin(Stdio::piped()).stdout(Stdio::piped()).stderr(Stdio::piped());
+    let mut child = pipes.spawn().unwrap_or_else(|error| panic!("{command:?}: {error}"));
+    let mut pipe = child.stdin.take().expect("the input is a pipe");
+    let bytes = input.to_vec();
+    // A script may stop reading before the end, so a refused write is no fault.
+    let writer = thread::spawn(move || drop(pipe.write_all(&bytes)));
+    let output = child.wait_with_output().unwrap_or_else(|error| panic!("{command:?}: {error}"));
+    writer.join().expect("the writer ends");
+    let text = |bytes: &[u8]| String::from_utf8_lossy(bytes).into_owned();
+    Ended { status: output.status.code(), printed: text(&output.stdout), said: text(&output.stderr) }
+}
+
+/// Sees that no script will build its program anew, which in several tests at once would end badly.
+fn fresh(program: &str) {
+    let built = repository().join("target/bin").join(program);
+    let newer = Command::new("find")
+        .args(["crates", "crates.txt", "-newer"])
+        .arg(&built)
+        .args(["-print", "-quit"])
+        .current_dir(repository())
+        .output()
+        .unwrap_or_else(|error| panic!("find: {error}"));
+    let built_last = newer.status.success() && newer.stdout.is_empty();
+    assert!(
+        built_last,
+        "target/bin/{program} is missing or older than its sources; `rt check {program}` builds it"
+    );
+}
+
+/// What the scripts say of a sheet, given what the program answered to a request.
+pub fn look(sheet: &[u8], code: i64, place: i64, request: &str) -> String {
+    let listed: String = sheet.chunks(16).map(numbers).collect();
+    let mut awk = Command::new("awk");
+    awk.arg("-v").arg(format!("code={code}")).arg("-v").arg(format!("place={place}"));
+    awk.arg("-v").arg(format!("request={request}")).arg("-f").arg(repository().join("scripts/sheet.awk"));
+    let Ended { status, printed, said } = ended(awk.env("LC_ALL", "C"), listed.as_bytes());
+    assert!(status == Some(0) && said.is_empty(), "awk ended with {status:?} and said: {said}");
+    printed
+}
+
+/// A line of bytes as `od` lists them.
+fn numbers(bytes: &[u8]) -> String {
+    bytes.iter().map(|byte| format!(" {byte:3}")).collect::<String>() + "\n"
+}
+
+/// A folder of its own for a test, removed with what it holds when the test is done with it.
+pub struct Folder(pub PathBuf);
+
+impl Folder {
+    pub fn new() -> Folder {
+        static COUNT: AtomicUsize = AtomicUsize::new(0);
+        let number = COUNT.fetch_add(1, Ordering::Relaxed);
+        let path = std::env::temp_dir().join(format!("corbatan-{}-{number}", std::process::id()));
+        fs::create_dir(&path).unwrap_or_else(|error| panic!("{}: {error}", path.display()));
+        Folder(path)
+    }
+
+    /// Where a file of that name stands in the folder, whose own folder is made.
+    fn place(&self, name: &str) -> PathBuf {
+        let file = self.0.join(name);
+        fs::create_dir_all(file.parent().expect("a file stands in a folder")).expect("a folder for a file");
+        file
+    }
+
+    /// Puts a file into the folder.
+    pub fn put(&self, name: &str, bytes: impl AsRef<[u8]>) -> PathBuf {
+        let file = self.place(name);
+        fs::write(&file, bytes).unwrap_or_else(|error| panic!("{}: {error}", file.display()));
+        file
+    }
+
+    /// Copies a file of the repository into the folder, at the same place and with its right to be run.
+    pub fn copy(&self, name: &str) {
+        fs::copy(repository().join(name), self.place(name)).unwrap_or_else(|error| panic!("{name}: {error}"));
+    }
+}
+
+impl Default for Folder {
+    fn default() -> Folder {
+        Folder::new()
+    }
+}
+
+impl Drop for Folder {
+    fn drop(&mut self) {
+        drop(fs::remove_dir_all(&self.0));
+    }
+}

@@ -1,0 +1,317 @@
+//! The scripts at the door, started as people start them: what is printed and said, how they end, what they do with an
+//! answer that cannot be written, and that they end what they have started.
+
+use compare::page::{coded, Page};
+use compare::run::repository;
+use compare::scripts::{bash, ended, script, Ended, Folder};
+use compare::sheet::STREET_A;
+use std::fs;
+use std::os::unix::fs::PermissionsExt;
+use std::process::{Command, Stdio};
+use std::thread::sleep;
+use std::time::{Duration, Instant};
+
+const PLAN_A: &str = "1 60 60 60 0\n0\n10\n";
+const SIZE_A: &str = "plan: a cycle of 10 s, reds of 4 to 5 s, 30 m from signal 1 to signal 2\n";
+
+/// Holds an end to its status, to what was printed, and to a part of what was said; where nothing is expected, to silence.
+fn expect(what: &str, ended: &Ended, status: i32, printed: &str, said: &str) {
+    let told = if said.is_empty() { ended.said.is_empty() } else { ended.said.contains(said) };
+    let good = ended.status == Some(status) && ended.printed == printed && told;
+    assert!(good, "{what}: {ended:?}, where {status}, {printed:?} and {said:?} are expected");
+}
+
+#[test]
+fn a_plan_goes_out_with_the_size_of_its_street() {
+    expect("a file", &script("plan", &["sheets/street-a.txt"], b""), 0, PLAN_A, SIZE_A);
+    expect("an input", &script("plan", &[], STREET_A), 0, PLAN_A, SIZE_A);
+    expect("an input by name", &script("plan", &["-"], STREET_A), 0, PLAN_A, SIZE_A);
+    expect("-q", &script("plan", &["-q", "sheets/street-a.txt"], b""), 0, PLAN_A, "");
+    expect("--", &script("plan", &["-q", "--", "sheets/street-a.txt"], b""), 0, PLAN_A, "");
+    let metres = b"1\n90\n2\n0 40\n420 35\n1\n13889 12500\n";
+    let wrong_units = "a cycle of 9 s, reds of 3.5 to 4 s, 0.42 m from signal 1 to signal 2";
+    let planned = script("plan", &[], metres);
+    assert!(planned.said.contains(wrong_units), "{planned:?}");
+    let refused = script("plan", &["-q", "sheets/refused-4-cycle-too-long.txt"], b"");
+    expect("a refusal", &refused, 1, "refused 4 0\n", "plan: refused, code 4: line 2 has \"6001\"");
+}
+
+#[test]
+fn a_file_is_found_from_the_callers_folder_whatever_its_name() {
+    let folder = Folder::new();
+    for name in ["sheet", "-q", "12", "with a space"] {
+        folder.put(name, STREET_A);
+        for (script, words) in [("plan", vec!["-q"]), ("ask", vec!["-q", "measure", "0", "10"])] {
+            let mut command = Command::new(repository().join(script));
+            command.args(words).args(["--", name]).current_dir(&folder.0);
+            let printed = if script == "plan" { PLAN_A } else { "60 40 60 60\n" };
+            expect(name, &ended(&mut command, b""), 0, printed, "");
+        }
+    }
+}
+
+#[test]
+fn words_that_cannot_be_taken_are_answered_with_why() {
+    let usages = [
+        ("plan", vec!["-x"], "plan: there is no option -x; a file of that name is typed after --\n"),
+        ("plan", vec!["a", "b"], "plan: one street sheet is read, and here are 2: a b\n"),
+        ("ask", vec![], "ask: no request is typed\n"),
+        ("ask", vec!["equals"], "ask: there is no request equals; there are equal, outbound"),
+        ("ask", vec!["outbound"], "ask: outbound lacks a number\n"),
+        ("ask", vec!["outbound", "-80"], "ask: outbound lacks a number, since -80 is none"),
+        ("ask", vec!["platoons", "30", "x"], "ask: platoons 30 lacks a number, since x is none"),
+        (
+            "ask",
+            vec!["outbound", "4294967296"],
+            "ask: in 'outbound 4294967296' a number is 4,294,967,296 or more\n",
+        ),
+    ];
+    for (name, words, why) in usages {
+        let ended = script(name, &words, STREET_A);
+        expect(&format!("{name} {words:?}"), &ended, 2, "", why);
+        assert!(ended.said.contains(&format!("\nusage: ./{name} [-q]")), "{ended:?}");
+    }
+    for name in ["plan", "ask"] {
+        let help = script(name, &["--help"], b"");
+        let usage = help.printed.starts_with(&format!("usage: ./{name} ")) && help.printed.contains("--");
+        assert!(help.status == Some(0) && usage && help.said.is_empty(), "{help:?}");
+    }
+}
+
+#[test]
+fn an_input_that_cannot_be_read_is_said_to_be_that() {
+    let inputs = [
+        ("./plan <&-", "standard input is closed"),
+        ("./ask equal <&-", "standard input is closed"),
+        ("./plan <docs", "the street sheet cannot be read: Is a directory"),
+        ("./plan docs", "docs is a folder, not a street sheet"),
+        ("./plan no-such-sheet", "there is no file no-such-sheet"),
+    ];
+    for (line, said) in inputs {
+        expect(line, &bash(line), 2, "", said);
+    }
+}
+
+#[test]
+fn a_plan_that_is_lost_is_no_success() {
+    let lost = "the answer cannot be written: No space left on device\n";
+    expect("plan", &bash("./plan -q sheets/street-a.txt >/dev/full"), 2, "", &format!("plan: {lost}"));
+    expect("a refusal", &bash("./plan sheets/refused-4-cycle-too-long.txt >/dev/full"), 2, "", lost);
+    expect("ask", &bash("./ask outbound 80 sheets/street-a.txt >/dev/full"), 2, "", &format!("ask: {lost}"));
+    let closed = "the answer cannot be written: Bad file descriptor\n";
+    expect("no output", &bash("./plan sheets/street-a.txt >&-"), 2, "", closed);
+    // The programs themselves have no exit status; they say it, and the scripts take that for a loss.
+    let programs = [("plan", "plan: the answer could not"), ("cases", "cases: a reply could not")];
+    for (program, said) in programs {
+        let line = format!(
+            ". scripts/base.sh; find_start; (echo equal; cat sheets/street-a.txt) | \
+             \"${{emulator[@]}}\" \"${{loader[@]}}\" target/bin/{program} >/dev/full"
+        );
+        expect(program, &bash(&line), 0, "", said);
+    }
+}
+
+#[test]
+fn a_reader_that_went_away_is_no_news() {
+    for start in ["exec ./plan sheets/street-a.txt", "trap '' PIPE; exec ./plan sheets/street-a.txt"] {
+        let mut command = Command::new("bash");
+        command.args(["-c", start]).current_dir(repository());
+        let mut child = command.stdout(Stdio::piped()).stderr(Stdio::piped()).spawn().expect("bash");
+        drop(child.stdout.take());
+        let output = child.wait_with_output().expect("an end");
+        let said = String::from_utf8_lossy(&output.stderr);
+        assert!(output.status.code() == Some(2) && said.is_empty(), "{start}: {:?} {said}", output.status);
+    }
+}
+
+/// Asks for a row of a page, and holds the answer to the lines of its reply.
+fn ask_row(sheet: &str, request: &str, reply: &str) {
+    let file = format!("sheets/{sheet}");
+    let words: Vec<&str> = ["-q"].into_iter().chain(request.split(' ')).chain([file.as_str()]).collect();
+    let Ended { status, printed, .. } = script("ask", &words, b"");
+    let expected = i32::from(reply.starts_with("refused"));
+    assert_eq!((status, printed.as_str()), (Some(expected), reply), "./ask {words:?}");
+}
+
+#[test]
+fn the_pages_tables_can_be_asked_as_they_stand() {
+    let examples = Page::open("EXAMPLES.md");
+    let lines = examples.lines("| Row | Sheet | Asked | Reply |");
+    for line in &lines {
+        let words = coded(line);
+        let mut words = words.splitn(3, '\n');
+        let mut next = || words.next().expect("a row has a sheet, a request and a reply");
+        ask_row(next(), next(), next());
+    }
+    let paper = Page::open("PAPER.md").table("| Sheet | Request | Reply | Offsets |");
+    for row in &paper {
+        let offsets = row[3].split_whitespace().map(|offset| format!("{offset}\n"));
+        ask_row(&row[0], &row[1], &format!("{}\n{}", row[2], offsets.collect::<String>()));
+    }
+    assert_eq!((lines.len(), paper.len()), (18, 18));
+}
+
+#[test]
+fn the_commands_of_the_first_page_work() {
+    let page = fs::read_to_string(repository().join("README.md")).expect("README.md");
+    let command = |line: &str| line.split('#').next().unwrap_or("").trim().to_string();
+    let starts = |line: &&str| line.starts_with("    ./plan ") || line.starts_with("    ./ask ");
+    let commands: Vec<String> = page.lines().filter(starts).map(command).collect();
+    let words: Vec<&str> = commands.iter().filter_map(|line| line.split(' ').nth(1)).collect();
+    assert_eq!(words, ["sheets/street-a.txt", "outbound", "platoons", "measure"]);
+    let printed =
+        ["1 60 60 60 0\n0\n10\n", "1 60 80 40 0\n180\n10\n", "1 60 90 30 0\n170\n10\n", "60 40 60 60\n"];
+    for (command, printed) in commands.iter().zip(printed) {
+        expect(command, &bash(command), 0, printed, "a cycle of 10 s");
+    }
+    let shown: String = printed[0].lines().map(|line| format!("    {line}\n")).collect();
+    assert!(page.contains(&shown), "README.md does not show what ./plan prints");
+}
+
+#[test]
+fn what_is_asked_is_said_to_be_tested_and_refusals_are_explained() {
+    let a = "sheets/street-a.txt";
+    let tested = "that it was asked for and printed so is tested, not proved\n";
+    expect("ask", &script("ask", &["outbound", "80", a], b""), 0, "1 60 80 40 0\n180\n10\n", tested);
+    let refusals = [
+        (vec!["outbound", "101", a], "refused 9 0\n", "the width 101 is not from the greater of 1 and B"),
+        (vec!["platoons", "5", "100001", a], "refused 8 2\n", "the inbound platoon, 100001, is above"),
+        (
+            vec!["measure", "0", "200", a],
+            "refused 10 2\n",
+            "the offset of signal 2, 200, is not below the cycle of 200",
+        ),
+        (
+            vec!["measure", "0", a],
+            "refused 2 0\n",
+            "measure takes an offset for each signal, 2 here, and was given 1",
+        ),
+        (vec!["equal", "sheets/refused-2-33-signals.txt"], "refused 2 0\n", "line 3 has \"33\""),
+    ];
+    for (words, printed, said) in refusals {
+        expect(&format!("{words:?}"), &script("ask", &words, b""), 1, printed, said);
+    }
+    let zero = script("ask", &["equal"], b"1\n600\n1\n0 240\0\n0\n");
+    expect(
+        "a byte 0",
+        &zero,
+        1,
+        "refused 1 0\n",
+        "line 4 should have the distance and the red of signal 1 of 1, and has \"0 240<0>\"",
+    );
+}
+
+/// A folder with the scripts and no crate, and with a kit of its own, whose `rt` runs a line of sh.
+fn house(rt: &str) -> Folder {
+    let folder = Folder::new();
+    for file in ["plan", "ask", "scripts/base.sh", "scripts/answer.sh", "scripts/sheet.awk", "crates.txt"] {
+        folder.copy(file);
+    }
+    fs::create_dir(folder.0.join("crates")).expect("a folder for crates");
+    runs(&folder, "kit/bin/rt", rt);
+    folder
+}
+
+/// Puts a program of sh into such a folder.
+fn runs(house: &Folder, name: &str, line: &str) {
+    let file = house.put(name, format!("#!/bin/sh\n{line}\n"));
+    fs::set_permissions(file, fs::Permissions::from_mode(0o755)).expect("a program that runs");
+}
+
+/// A script of such a folder, with the `rt` of its kit.
+fn start(house: &Folder, name: &str, words: &[&str]) -> Command {
+    let path = format!("{}/kit/bin:{}", house.0.display(), std::env::var("PATH").unwrap_or_default());
+    let mut command = Command::new(house.0.join(name));
+    command.args(words).env("PATH", path).env("LC_ALL", "C.UTF-8").stdin(Stdio::null());
+    command
+}
+
+#[test]
+fn an_answer_that_the_program_could_not_write_is_no_answer() {
+    let house = house("exit 0");
+    let emulator = format!("kit/on/{}/toolchain/bin/qemu-x86_64", std::env::consts::ARCH);
+    runs(&house, &emulator, "shift 3; exec \"$@\"");
+    let ends = [
+        (
+            "echo 'plan: half of it is lost' >&2",
+            "status 0 and without its whole answer: half of it is lost\n",
+        ),
+        ("exit 3", "status 3 and without its whole answer"),
+        ("kill -SEGV $$", "status 139 and without its whole answer"),
+    ];
+    for (end, said) in ends {
+        runs(&house, "target/bin/plan", &format!("echo 1 60 60 60 0; {end}"));
+        expect(end, &ended(&mut start(&house, "plan", &[]), STREET_A), 2, "", said);
+    }
+    runs(&house, "target/bin/plan", "cat >/dev/null");
+    expect(
+        "nothing",
+        &ended(&mut start(&house, "plan", &[]), STREET_A),
+        2,
+        "",
+        "the program printed nothing",
+    );
+    runs(&house, "target/bin/cases", "printf '1 60 60 60 0\\n0\\n'");
+    expect(
+        "a part",
+        &ended(&mut start(&house, "ask", &["equal"]), STREET_A),
+        2,
+        "",
+        "the program's answer is not whole",
+    );
+}
+
+#[test]
+fn a_signal_ends_the_provers_too() {
+    for (name, words, signal) in
+        [("plan", vec![], "INT"), ("ask", vec!["equal"], "TERM"), ("plan", vec![], "HUP")]
+    {
+        // As rt does, it starts a prover in the background, where a shell makes it deaf to Ctrl-C.
+        let house = house("sleep 600 & echo $! >prover; echo \"rt: under way\"; wait");
+        let mut child = start(&house, name, &words).stderr(Stdio::null()).spawn().expect("a script");
+        let began = Instant::now();
+        let prover = loop {
+            let text = fs::read_to_string(house.0.join("prover")).unwrap_or_default();
+            if text.ends_with('\n') {
+                break text.trim().to_string();
+            }
+            assert!(began.elapsed() < Duration::from_secs(20), "no prover was started");
+            sleep(Duration::from_millis(20));
+        };
+        let kill =
+            |words: &[&str]| Command::new("kill").args(words).stderr(Stdio::null()).status().expect("kill");
+        assert!(kill(&["-s", signal, &child.id().to_string()]).success());
+        let status = child.wait().expect("an end");
+        assert!(status.code().is_none(), "{name} ended with {status:?} after SIG{signal}");
+        while kill(&["-0", &prover]).success() {
+            assert!(
+                began.elapsed() < Duration::from_secs(30),
+                "SIG{signal} left the prover of {name} running"
+            );
+            sleep(Duration::from_millis(20));
+        }
+    }
+}
+
+#[test]
+fn what_cannot_be_built_is_said_and_rt_runs_under_one_locale() {
+    let broken = house("echo \"rt: street proved (18 s)\"; echo \"rt: in $LC_ALL, $1 $2 is broken\"; exit 1");
+    let failed = ended(&mut start(&broken, "plan", &["-q"]), STREET_A);
+    expect(
+        "a failed proof",
+        &failed,
+        2,
+        "",
+        "plan:   street proved (18 s)\nplan:   in C, check plan is broken\n",
+    );
+    assert!(failed.said.contains("the program is not built, because rt check plan failed"), "{failed:?}");
+    for name in ["plan", "ask"] {
+        let house = house("exit 0");
+        house.put("target", "a file where the folder should be");
+        let words: &[&str] = if name == "ask" { &["equal"] } else { &[] };
+        let unbuilt = ended(&mut start(&house, name, words), STREET_A);
+        let said = format!("{name}: the folder {}/target cannot be written", house.0.display());
+        expect("no target", &unbuilt, 2, "", &said);
+        assert_eq!(unbuilt.said.lines().count(), 1, "{unbuilt:?}");
+    }
+}

@@ -1,0 +1,282 @@
+//! From a refusal to its line: the slips that people make, typed into copies of the samples, and damaged sheets.
+
+use compare::page::{sheet, Page};
+use compare::printed::plan_prints;
+use compare::scripts::{ended, look, script, Ended};
+use compare::sheet::{fault_line, read, LARGEST_SHEET};
+use compare::trial::{in_parallel, Case};
+use std::process::Command;
+
+/// A slip: what it is, the sample with the slip in it, the code and place that it gets, the line that it leads to, and
+/// what else the sentence says.
+type Slip = (&'static str, Vec<u8>, &'static str, usize, &'static str);
+
+/// A sample as it stands, line by line.
+struct Sample(Vec<String>);
+
+impl Sample {
+    fn of(name: &str) -> Sample {
+        let text = String::from_utf8(sheet(name)).expect("a sample is plain");
+        Sample(text.lines().map(str::to_string).collect())
+    }
+
+    fn text(&self) -> String {
+        self.0.iter().map(|line| format!("{line}\n")).collect()
+    }
+
+    /// A line typed otherwise.
+    fn typed(&self, line: usize, instead: &str) -> Vec<u8> {
+        let mut lines = self.0.clone();
+        assert_ne!(lines[line - 1], instead, "no slip");
+        lines[line - 1] = instead.to_string();
+        Sample(lines).text().into_bytes()
+    }
+
+    /// A line left out.
+    fn without(&self, line: usize) -> Vec<u8> {
+        let mut lines = self.0.clone();
+        lines.remove(line - 1);
+        Sample(lines).text().into_bytes()
+    }
+
+    /// A line too many.
+    fn with(&self, line: usize, more: &str) -> Vec<u8> {
+        let mut lines = self.0.clone();
+        lines.insert(line - 1, more.to_string());
+        Sample(lines).text().into_bytes()
+    }
+}
+
+/// Slips in the bytes of a line. Line 5 of the sample is `167640 260`, signal 2 of 10, and line 15 its first link.
+fn in_a_line(ten: &Sample) -> Vec<Slip> {
+    let separator = "a number is whole and has no separator";
+    let second = |typed: &str| ten.typed(5, typed);
+    vec![
+        ("a comma for thousands", second("167,640 260"), "1 0", 5, separator),
+        ("a point for thousands", second("167.640 260"), "1 0", 5, separator),
+        ("an apostrophe for thousands", second("167'640 260"), "1 0", 5, separator),
+        ("a space for thousands", second("167 640 260"), "1 0", 5, "more than two numbers"),
+        ("a decimal point", second("167640 26.0"), "1 0", 5, separator),
+        ("a decimal comma", second("167640 26,0"), "1 0", 5, separator),
+        ("a tab", second("167640\t260"), "1 0", 5, "has \"167640<TAB>260\"; it has a tab"),
+        ("a leading zero", second("167640 0260"), "1 0", 5, "no zero in front"),
+        ("a space at the end", second("167640 260 "), "1 0", 5, "ends with a space"),
+        ("a space at the start", second(" 167640 260"), "1 0", 5, "starts with a space"),
+        ("two spaces", second("167640  260"), "1 0", 5, "two spaces side by side"),
+        (
+            "a non-breaking space",
+            second("167640\u{a0}260"),
+            "1 0",
+            5,
+            "\"167640<NBSP>260\"; it has a non-breaking space",
+        ),
+        ("a sign", second("-5 260"), "1 0", 5, "no number has a sign"),
+        ("a unit", ten.typed(2, "650 ticks"), "1 0", 2, "no units, words or remarks"),
+        ("a red that is missing", second("167640"), "1 0", 5, "one number is missing"),
+        ("too many digits", second("167640000 260"), "1 0", 5, "at most 8 digits"),
+        ("one speed for both ways", ten.typed(15, "15240"), "1 0", 15, "one number is missing"),
+        (
+            "a single carriage return",
+            second("167640 260\r"),
+            "1 0",
+            5,
+            "has \"167640 260<CR>\"; it has a carriage return",
+        ),
+        ("another first count", ten.typed(1, "10"), "1 0", 1, "the first line is 1, whatever the street"),
+        (
+            "a byte order mark",
+            ten.typed(1, "\u{feff}1"),
+            "1 0",
+            1,
+            "has \"<BOM>1\"; it starts with a byte order mark",
+        ),
+    ]
+}
+
+/// Slips in the lines as a whole, and in the counts.
+fn in_the_lines(ten: &Sample, one: &Sample) -> Vec<Slip> {
+    let crlf = ten.text().replace('\n', "\r\n").into_bytes();
+    let unended = ten.text().trim_end().as_bytes().to_vec();
+    let many = "is one too many, since one of 10 signals has 23 lines";
+    vec![
+        ("line ends of Windows", crlf, "1 0", 1, "it has a carriage return"),
+        ("the last line end missing", unended, "1 0", 23, "with no line end; press Enter"),
+        ("an empty line at the end", ten.with(24, ""), "1 0", 24, many),
+        ("an empty line between", ten.with(6, ""), "1 0", 6, "and is empty; delete the empty line"),
+        ("nothing at all", vec![], "1 0", 1, "the sheet is empty"),
+        (
+            "a missing link line",
+            ten.without(20),
+            "1 0",
+            23,
+            "the sheet ends after line 22, and one of 10 signals has 23 lines",
+        ),
+        ("an extra link line", ten.with(20, "15240 15240"), "1 0", 24, many),
+        ("a signal line missing", ten.without(8), "1 0", 13, "the count of signals on line 3 is too large"),
+        ("a count too small", ten.typed(3, "9"), "1 0", 13, "that of signals on line 3 is too small"),
+        ("a count too large", ten.typed(3, "11"), "1 0", 14, "the count of signals on line 3 is too large"),
+        (
+            "the missing 0 of a single signal",
+            one.without(5),
+            "1 0",
+            5,
+            "the sheet ends after line 4, and one of 1 signal has 5 lines",
+        ),
+        ("too many signals", ten.typed(3, "33"), "2 0", 3, "a street has 1 to 32 signals"),
+        ("no signal", ten.typed(3, "0"), "2 0", 3, "a street has 1 to 32 signals"),
+        ("as many links as signals", ten.typed(14, "10"), "2 0", 14, "10 signals have 9 links"),
+    ]
+}
+
+/// Slips that leave a sheet, whose numbers are refused.
+fn in_the_numbers(ten: &Sample) -> Vec<Slip> {
+    vec![
+        ("a cycle in thousandths", ten.typed(2, "65000"), "4 0", 2, "not from 10 to 6,000 ticks"),
+        ("a cycle in seconds", ten.typed(2, "65"), "5 1", 4, "the cycle on line 2 is 65 ticks, 6.5 s"),
+        ("the cycle for a red", ten.typed(5, "167640 650"), "5 2", 5, "not from 1 to 649 ticks"),
+        (
+            "a way from signal to signal",
+            ten.typed(6, "21336 260"),
+            "6 3",
+            6,
+            "distances are from the origin, not from signal to signal",
+        ),
+        ("a distance past 20 km", ten.typed(13, "20000001 273"), "6 10", 13, "above 20,000,000 mm"),
+        ("a speed in km/h", ten.typed(16, "50 50"), "7 2", 16, "in mm/s, not in km/h, and 50 km/h is 13889"),
+    ]
+}
+
+/// Whether a sentence names a line as the one to look at, and no other.
+fn names(sentence: &str, line: usize) -> bool {
+    ["should have", "has", "is one too many"]
+        .iter()
+        .any(|rest| sentence.contains(&format!(" line {line} {rest}")))
+}
+
+#[test]
+fn each_slip_leads_to_its_line() {
+    let (ten, one) = (Sample::of("paper-euclid.txt"), Sample::of("row-1-one-signal.txt"));
+    let slips: Vec<Slip> =
+        [in_a_line(&ten), in_the_lines(&ten, &one), in_the_numbers(&ten)].into_iter().flatten().collect();
+    println!("{} slips", slips.len());
+    assert!(slips.len() >= 40);
+    let fault = |(what, sheet, refused, line, says): &Slip| {
+        let Ended { status, printed, said } = script("plan", &[], sheet);
+        let first = said.lines().next().unwrap_or("");
+        let good = status == Some(1) && printed == format!("refused {refused}\n");
+        let led = names(first, *line) && first.contains(says);
+        if good && led {
+            None
+        } else {
+            Some(format!("{what}: {printed}{first}"))
+        }
+    };
+    let faults = in_parallel(&slips, fault);
+    assert!(faults.is_empty(), "{}", faults.join("\n"));
+}
+
+#[test]
+fn the_typists_sheets_lead_to_their_lines() {
+    let page = Page::open("SHEETS.md");
+    let samples = page.samples();
+    let tried = |sample: &compare::page::Sample| {
+        let Ended { status, printed, said } = script("plan", &[], &sample.sheet);
+        let refused = printed.starts_with("refused");
+        let led = match fault_line(&sample.sheet) {
+            Some(line) => refused && names(&said, line),
+            None => refused == said.contains(" line "),
+        };
+        let good = led && printed == sample.prints && status == Some(i32::from(refused));
+        Some((good, format!("docs/SHEETS.md, line {}: {printed}{said}", sample.line)))
+    };
+    let all = in_parallel(&samples, tried);
+    all.iter().for_each(|(good, told)| assert!(good, "{told}"));
+    let shown: Vec<&str> = page.text.lines().filter_map(|line| line.strip_prefix("    plan: ")).collect();
+    assert_eq!(shown.len(), 2);
+    for sentence in shown.into_iter().chain(["0.42 m from signal 1 to signal 2"]) {
+        assert!(
+            all.iter().any(|(_, told)| told.contains(&format!("{sentence}\n"))),
+            "no one says: {sentence}"
+        );
+        page.says(&sentence.split_whitespace().collect::<Vec<&str>>().join(" "));
+    }
+}
+
+/// Whether a line has one or two numbers, as every line of a sheet does.
+fn formed(line: &[u8]) -> bool {
+    let number = |word: &[u8]| {
+        let digits = (1..=8).contains(&word.len()) && word.iter().all(u8::is_ascii_digit);
+        digits && (word == b"0" || word[0] != b'0')
+    };
+    let words: Vec<&[u8]> = line.split(|&byte| byte == b' ').collect();
+    words.len() <= 2 && words.into_iter().all(number)
+}
+
+#[test]
+fn one_command_finds_the_ill_formed_lines() {
+    let page = Page::open("SHEETS.md");
+    let samples = page.samples();
+    let command =
+        page.text.lines().find_map(|line| line.strip_prefix("    LC_ALL=C grep ")).expect("a command");
+    let command = format!("LC_ALL=C grep {command}").replace("FILE", "-");
+    let mut found = 0;
+    for sample in samples {
+        let lines = sample.sheet.split_inclusive(|&byte| byte == 10).enumerate();
+        let ill = lines.filter(|(_, line)| !formed(line.strip_suffix(b"\n").unwrap_or(line)));
+        let expected: Vec<String> = ill.map(|(k, _)| format!("{}", k + 1)).collect();
+        let printed = ended(Command::new("bash").args(["-c", &command]), &sample.sheet).printed;
+        let numbers: Vec<&str> = printed.lines().map(|line| line.split(':').next().unwrap_or("")).collect();
+        assert_eq!(numbers, expected, "docs/SHEETS.md, line {}", sample.line);
+        found += numbers.len();
+    }
+    assert!(found > 20, "{found} lines were found");
+}
+
+/// Holds what is said of a sheet to the model: the line of its first fault, with its text; nothing where it is planned.
+fn misled(case: &Case) -> Option<String> {
+    let seen = &case.sheet[..case.sheet.len().min(LARGEST_SHEET + 1)];
+    let prints = plan_prints(&case.sheet);
+    let numbers: Vec<i64> = prints.split_whitespace().filter_map(|word| word.parse().ok()).collect();
+    let fault = |what: &str, said: &str| Some(format!("{what}: {prints}{said}on {case:?}"));
+    if !prints.starts_with("refused") {
+        let (said, size) = (look(seen, 1, 0, "equal"), look(seen, 0, 0, "equal"));
+        let street = read(&case.sheet).expect("a planned sheet");
+        let cycle = format!("a cycle of {}", street.cycle / 10);
+        let led = said != "refused, code 1, place 0.\n" || !size.starts_with(&cycle);
+        return if led { fault("a planned sheet", &said) } else { None };
+    }
+    let said = look(seen, numbers[0], numbers[1], "equal");
+    let other = look(seen, 3 - numbers[0].min(2), 0, "equal");
+    let Some(line) = fault_line(seen) else {
+        let line =
+            3 + numbers[1] as usize + if numbers[0] == 7 { 1 + read(seen).unwrap().signals() } else { 0 };
+        let line = if numbers[0] == 4 { 2 } else { line };
+        return if names(&said, line) { None } else { fault("a number", &said) };
+    };
+    let text = seen.split(|&byte| byte == 10).nth(line - 1).unwrap_or(b"");
+    let plain = text.len() <= 60 && text.iter().all(|byte| (32..127).contains(byte));
+    let shown = text.is_empty() || !plain || said.contains(&format!("\"{}\"", String::from_utf8_lossy(text)));
+    let long = case.sheet.len() > LARGEST_SHEET;
+    if !names(&said, line) || !shown || said.contains("more than 2,048 bytes") != long {
+        return fault("another line", &said);
+    }
+    if names(&other, line) && !long {
+        fault("the other code", &other)
+    } else {
+        None
+    }
+}
+
+#[test]
+fn damaged_sheets_lead_to_the_line_of_the_model() {
+    let cases: Vec<Case> = (0..2_400).map(|number| Case::random(10, number)).collect();
+    let faults = in_parallel(&cases, misled);
+    assert!(faults.is_empty(), "{} of {}, such as\n{}", faults.len(), cases.len(), faults[0]);
+    let count = |code: &str| cases.iter().filter(|case| plan_prints(&case.sheet).starts_with(code)).count();
+    let counts = ["refused 1", "refused 2", "refused 4", "refused 5", "refused 6", "refused 7"].map(count);
+    let planned = cases.len() - counts.iter().sum::<usize>();
+    println!("{planned} planned, {counts:?} refused with codes 1, 2 and 4 to 7");
+    assert!(
+        planned > 600 && counts[0] > 300 && counts[1] > 60 && counts[2..].iter().all(|&count| count > 10)
+    );
+}
