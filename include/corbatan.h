@@ -26,8 +26,19 @@
  * nothing is kept between calls, so threads may call at the same time, each
  * with a lent list of its own.
  *
- * Link with libexports.a, which `rt staticlib exports` writes; it is for
- * x86-64 Linux.
+ * How to get the archive, which is for x86-64 Linux: in the repository,
+ *
+ *     ./install FOLDER
+ *
+ * proves the library and puts this header, the archive libcorbatan.a and a
+ * file for pkg-config into FOLDER. `rt staticlib exports` makes the archive
+ * alone, and leaves it at target/staticlib/libexports.a. From nothing either
+ * takes some two minutes on two processors, and about twelve seconds once all
+ * is proved. A program is then built by
+ *
+ *     cc -I FOLDER/include program.c FOLDER/lib/libcorbatan.a -o program
+ *
+ * docs/CALLING.md has whole programs in C, C++, Rust and Python.
  */
 #ifndef CORBATAN_H
 #define CORBATAN_H
@@ -37,14 +48,22 @@
 
 /* The version of this interface: the major number changes when a program that uses it has to change. */
 #define CORBATAN_VERSION_MAJOR 1
-#define CORBATAN_VERSION_MINOR 0
-#define CORBATAN_VERSION "1.0"
+#define CORBATAN_VERSION_MINOR 1
+#define CORBATAN_VERSION "1.1"
 
 /* How many signals a street can have, and so how long the lists in a CorbatanSheet are. */
 #define CORBATAN_MAX_SIGNALS 32
 
 /* How many bytes a printed text can have. */
 #define CORBATAN_MAX_TEXT 512
+
+/*
+ * How many bytes of stack are enough for any of the calls, with its arguments and its reply. client/stack.c measures
+ * what they take, on streets of up to 32 signals, on requests and on refusals: corbatan_print 14,488, a plan 10,472,
+ * corbatan_read 3,328, corbatan_measure 2,568. The rest is room, as for the dynamic linker, which takes some 2,000
+ * bytes of the caller's stack where it binds memcpy or memset at their first use.
+ */
+#define CORBATAN_STACK 20480
 
 /*
  * What `code` says, and what `place` then names, counted from 1. Of a street's faults the one with the smallest code
@@ -66,7 +85,7 @@
 extern "C" {
 #endif
 
-/* A plan, or a refusal, of which every number but the code and the place is 0. */
+/* A plan, or a refusal, of which every number but the code and the place is 0. It has 36 bytes. */
 typedef struct CorbatanPlan {
     uint32_t code;      /* 0 for a plan, else the number of the refusal. */
     uint32_t place;     /* The signal, link or direction that was refused, counted from 1, or 0. */
@@ -79,7 +98,10 @@ typedef struct CorbatanPlan {
     uint32_t ends;      /* The instant at c at which the named inbound band ends, in halves, below H; given for width 0 too. */
 } CorbatanPlan;
 
-/* The bands of given offsets, a band of width 0 with start 0; or a refusal, whose numbers but code and place are 0. */
+/*
+ * The bands of given offsets, a band of width 0 with start 0; or a refusal, whose numbers but code and place are 0.
+ * It has 24 bytes.
+ */
 typedef struct CorbatanMeasure {
     uint32_t code;           /* 0 for a measure, else the number of the refusal. */
     uint32_t place;          /* The signal or link that was refused, counted from 1, or 0. */
@@ -89,7 +111,10 @@ typedef struct CorbatanMeasure {
     uint32_t inbound_start;  /* The least instant at signal n at which a band of that width starts, in halves. */
 } CorbatanMeasure;
 
-/* The numbers of a sheet, which the call that uses them judges, or a refusal, of which all but the code is 0. */
+/*
+ * The numbers of a sheet, which the call that uses them judges, or a refusal, of which all but the code is 0. It has
+ * 536 bytes, 4 of them empty at its end.
+ */
 typedef struct CorbatanSheet {
     uint32_t code;                            /* 0 for a sheet that was read, else 1 or 2. */
     uint32_t place;                           /* Always 0: the reader's refusals name no place. */
@@ -101,7 +126,7 @@ typedef struct CorbatanSheet {
     uint32_t inbound[CORBATAN_MAX_SIGNALS];   /* Each link's inbound speed, in mm/s; 0 from entry n - 1 on. */
 } CorbatanSheet;
 
-/* A printed text. */
+/* A printed text. It has 520 bytes. */
 typedef struct CorbatanText {
     size_t count;                     /* How many bytes the text has. */
     uint8_t bytes[CORBATAN_MAX_TEXT]; /* The text in ASCII, each line with its line end; 0 from entry `count` on. */

@@ -4,13 +4,6 @@
 
 quiet='' words=()
 
-# Says why the words cannot be taken, and how they go.
-misused() { # WHY
-    say "$1"
-    usage | head -n 1 >&2
-    stop "./$name --help says more"
-}
-
 # Takes the options in front and leaves the words after them.
 take_options() { # WORD...
     while [ $# -gt 0 ]; do

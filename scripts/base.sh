@@ -13,6 +13,13 @@ child='' scratch=''
 say() { printf '%s: %s\n' "$name" "$*" >&2; }
 stop() { say "$*"; exit 2; }
 
+# Says why the words cannot be taken, and how they go. The script has a function `usage`.
+misused() { # WHY
+    say "$1"
+    usage | head -n 1 >&2
+    stop "./$name --help says more"
+}
+
 need() { # TOOL...
     local tool
     for tool; do

@@ -18,8 +18,11 @@ pub struct Ended {
 
 /// Starts a script of the repository with words and an input.
 pub fn script(name: &str, words: &[&str], input: &[u8]) -> Ended {
-    let program = if name == "ask" { "cases" } else { name };
-    fresh(program);
+    match name {
+        "ask" => fresh("cases"),
+        "plan" => fresh("plan"),
+        _ => (),
+    }
     ended(Command::new(repository().join(name)).args(words).current_dir(repository()), input)
 }
 

@@ -55,6 +55,9 @@ fn words_that_cannot_be_taken_are_answered_with_why() {
     let usages = [
         ("plan", vec!["-x"], "plan: there is no option -x; a file of that name is typed after --\n"),
         ("plan", vec!["a", "b"], "plan: one street sheet is read, and here are 2: a b\n"),
+        ("install", vec![], "install: the folder to install into is missing\n"),
+        ("install", vec!["a", "b"], "install: one folder is asked for, and 2 words were given\n"),
+        ("install", vec!["-x"], "install: there is no option -x; a folder of that name is typed after --\n"),
         ("ask", vec![], "ask: no request is typed\n"),
         ("ask", vec!["equals"], "ask: there is no request equals; there are equal, outbound"),
         ("ask", vec!["outbound"], "ask: outbound lacks a number\n"),
@@ -69,9 +72,9 @@ fn words_that_cannot_be_taken_are_answered_with_why() {
     for (name, words, why) in usages {
         let ended = script(name, &words, STREET_A);
         expect(&format!("{name} {words:?}"), &ended, 2, "", why);
-        assert!(ended.said.contains(&format!("\nusage: ./{name} [-q]")), "{ended:?}");
+        assert!(ended.said.contains(&format!("\nusage: ./{name} [")), "{ended:?}");
     }
-    for name in ["plan", "ask"] {
+    for name in ["plan", "ask", "install"] {
         let help = script(name, &["--help"], b"");
         let usage = help.printed.starts_with(&format!("usage: ./{name} ")) && help.printed.contains("--");
         assert!(help.status == Some(0) && usage && help.said.is_empty(), "{help:?}");
@@ -79,13 +82,14 @@ fn words_that_cannot_be_taken_are_answered_with_why() {
 }
 
 #[test]
-fn an_input_that_cannot_be_read_is_said_to_be_that() {
+fn what_cannot_be_read_or_made_is_said_to_be_that() {
     let inputs = [
         ("./plan <&-", "standard input is closed"),
         ("./ask equal <&-", "standard input is closed"),
         ("./plan <docs", "the street sheet cannot be read: Is a directory"),
         ("./plan docs", "docs is a folder, not a street sheet"),
         ("./plan no-such-sheet", "there is no file no-such-sheet"),
+        ("./install README.md/below", "README.md/below/include cannot be made"),
     ];
     for (line, said) in inputs {
         expect(line, &bash(line), 2, "", said);
