@@ -40,7 +40,7 @@ take_sheet() {
 }
 
 # What a command said last, without its name.
-fault() { sed -n '$s/.*: //p' "$scratch/fault"; }
+fault() { sed -n '${s/.*: //;p;}' "$scratch/fault"; }
 
 # Reads the sheet that the words name, and sees that the program is there; from here on the repository's folder is the
 # current one.

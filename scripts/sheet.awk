@@ -110,7 +110,8 @@ function miscounted(t) {
     if (!ended[line]) return ""
     if (line == 1) return "the first line is 1, whatever the street"
     if (asked == 2 && !number(t)) return "it has more than two numbers; a number has no space within"
-    if (asked == 2) return "one number is missing" (line > 3 + signals ? "" : ", or the count of signals on line 3 is too large")
+    if (asked == 2 && line > 3 + signals) return "one number is missing"
+    if (asked == 2) return "one number is missing, or the count of signals on line 3 is too large"
     if (signals) return "the count is missing, or that of signals on line 3 is too small"
     return "it has more than one number"
 }
@@ -127,17 +128,18 @@ function form_fault(    whole, has) {
         has = lines ? "the sheet ends after line " lines : "the sheet is empty"
         return has (signals ? ", and " whole : "") ": line " line " should have " should
     }
-    if (should == "") return "line " line " is one too many, since " whole (shown[line] == "" ? ", and it is empty" : ", and it has " quoted(line))
-    has = shown[line] == "" ? "and is empty" : "and has " quoted(line)
-    has = "line " line " should have " should ", " has
+    has = shown[line] == "" ? "is empty" : "has " quoted(line)
+    if (should == "") return "line " line " is one too many, since " whole ", and it " has
+    has = "line " line " should have " should ", and " has
     if (ended[line]) return with_hint(has)
     if (formed(line, asked)) return has " with no line end; press Enter after the last number"
     return with_hint(has " with no line end")
 }
 
-function count_fault() {
-    if (line == 3) return "line 3 has " quoted(3) ", and a street has 1 to 32 signals"
-    return "line " line " has " quoted(line) ", and " count(signals, "signal") " " (signals == 1 ? "has " : "have ") count(signals - 1, "link")
+function count_fault(    has) {
+    has = "line " line " has " quoted(line) ", and "
+    if (line == 3) return has "a street has 1 to 32 signals"
+    return has count(signals, "signal") (signals == 1 ? " has " : " have ") count(signals - 1, "link")
 }
 
 function offsets_fault() {
@@ -159,8 +161,8 @@ function speed_fault(    row) {
 
 function red_fault(    row) {
     row = 3 + place
-    return "line " row " has " quoted(row) ", and the red of signal " place ", its second number, is not from 1 to " cycle - 1 \
-        " ticks; the cycle on line 2 is " count(cycle, "tick") ", " decimal(cycle, 10) " s"
+    return "line " row " has " quoted(row) ", and the red of signal " place ", its second number, is not from 1 to " \
+        cycle - 1 " ticks; the cycle on line 2 is " count(cycle, "tick") ", " decimal(cycle, 10) " s"
 }
 
 # The shortest green, in halves, which no band can exceed.
@@ -175,14 +177,19 @@ function number_fault() {
     if (code == 5) return red_fault()
     if (code == 6) return distance_fault()
     if (code == 7) return speed_fault()
-    if (code == 8) return "the " (place == 1 ? "outbound" : "inbound") " platoon, " word[1 + place] ", is above 100,000 halves, twentieths of a second"
-    if (code == 9) return "the width " word[2] " is not from the greater of 1 and B, the second number of the equal plan, up to " green() " halves, the shortest green"
-    if (code == 10) return "the offset of signal " place ", " word[1 + place] ", is not below the cycle of " 2 * cycle " halves"
+    if (code == 8)
+        return "the " (place == 1 ? "outbound" : "inbound") " platoon, " word[1 + place] ", is above 100,000 halves, twentieths of a second"
+    if (code == 9)
+        return "the width " word[2] " is not from the greater of 1 and B, the second number of the equal plan, up to " \
+            green() " halves, the shortest green"
+    if (code == 10)
+        return "the offset of signal " place ", " word[1 + place] ", is not below the cycle of " 2 * cycle " halves"
     return ""
 }
 
 function fault(    sentence) {
-    if (code == 1 && bytes > 2048) sentence = "the sheet has more than 2,048 bytes, too many for any street; " (own == 1 ? form_fault() : count_fault())
+    if (code == 1 && bytes > 2048)
+        sentence = "the sheet has more than 2,048 bytes, too many for any street; " (own == 1 ? form_fault() : count_fault())
     else if (code == 1 && own == 1) sentence = form_fault()
     else if (code == 2 && own == 2) sentence = count_fault()
     else if (code == 2 && own == 0 && word[1] == "measure") sentence = offsets_fault()
@@ -198,14 +205,15 @@ function decimal(value, unit,    whole, rest) {
     return rest == "" ? whole : whole "." rest
 }
 
-function size(    k, least, most) {
+function size(    k, least, most, times) {
     least = most = second(4)
     for (k = 5; k < 4 + signals; k++) {
         if (second(k) < least) least = second(k)
         if (second(k) > most) most = second(k)
     }
-    return "a cycle of " decimal(cycle, 10) " s, reds of " decimal(least, 10) (least == most ? "" : " to " decimal(most, 10)) " s" \
-        (signals == 1 ? ", one signal" : ", " decimal(first(3 + signals) - first(4), 1000) " m from signal 1 to signal " signals)
+    times = "a cycle of " decimal(cycle, 10) " s, reds of " decimal(least, 10) (least == most ? "" : " to " decimal(most, 10)) " s, "
+    if (signals == 1) return times "one signal"
+    return times decimal(first(3 + signals) - first(4), 1000) " m from signal 1 to signal " signals
 }
 
 BEGIN {
