@@ -36,11 +36,11 @@ open_sheet() { # [--] [FILE]
 
 # Keeps the first bytes of the sheet: one more than it may have, so that one that is too long is seen to be.
 take_sheet() {
-    head -c 2049 >"$scratch/sheet" 2>"$scratch/fault" || stop "the street sheet cannot be read: $(fault)"
+    head -c 2049 >"$scratch/sheet" 2>"$scratch/fault" || stop "the street sheet cannot be read: $(reason)"
 }
 
 # What a command said last, without its name.
-fault() { sed -n '${s/.*: //;p;}' "$scratch/fault"; }
+reason() { sed -n '${s/.*: //;p;}' "$scratch/fault"; }
 
 # Reads the sheet that the words name, and sees that the program is there; from here on the repository's folder is the
 # current one.
@@ -64,7 +64,7 @@ run_program() { # PROGRAM FILE
     "${emulator[@]}" "${loader[@]}" "target/bin/$1" <"$2" >"$scratch/printed" 2>"$scratch/fault"
     status=$?
     if [ "$status" -ne 0 ] || [ -s "$scratch/fault" ]; then
-        stop "the program target/bin/$1 ended with status $status and without its whole answer: $(fault)"
+        stop "the program target/bin/$1 ended with status $status and without its whole answer: $(reason)"
     fi
 }
 
@@ -73,7 +73,7 @@ hand_over() {
     local status
     cat -- "$scratch/printed" 2>"$scratch/fault" && return
     status=$?
-    [ "$status" -eq 141 ] || grep -q 'Broken pipe' "$scratch/fault" || say "the answer cannot be written: $(fault)"
+    [ "$status" -eq 141 ] || grep -q 'Broken pipe' "$scratch/fault" || say "the answer cannot be written: $(reason)"
     exit 2
 }
 
