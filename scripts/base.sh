@@ -91,7 +91,8 @@ find_start() {
     [ "$machine" != x86_64 ] || return 0
     find_kit
     emulator=("$kit/toolchain/bin/qemu-x86_64")
-    [ -x "${emulator[0]}" ] || stop "the kit of rt has no emulator for this machine, $machine (bin/qemu-x86_64 of its toolchain)"
+    [ -x "${emulator[0]}" ] ||
+        stop "the kit of rt has no emulator for this machine, $machine (bin/qemu-x86_64 of its toolchain)"
     loader=("$kit/toolchain/lib/ld-linux-x86-64.so.2" --library-path "$kit/toolchain/lib")
 }
 
@@ -116,7 +117,8 @@ run_rt() { # FILE WORD...
 
 # Whether a program is missing or older than something that it is built from.
 stale() { # PROGRAM
-    [ ! -x "target/bin/$1" ] || [ -n "$(find crates crates.txt -newer "target/bin/$1" -print -quit)" ]
+    [ ! -x "target/bin/$1" ] ||
+        [ -n "$(find crates crates.txt -name must-fail -prune -o -newer "target/bin/$1" -print -quit)" ]
 }
 
 # Proves and builds a program. It gets the time at which this began, so that an edit made meanwhile counts as newer.

@@ -48,18 +48,13 @@ pub fn ended(command: &mut Command, input: &[u8]) -> Ended {
 
 /// Sees that no script will build its program anew, which in several tests at once would end badly.
 fn fresh(program: &str) {
-    let built = repository().join("target/bin").join(program);
-    let newer = Command::new("find")
-        .args(["crates", "crates.txt", "-newer"])
-        .arg(&built)
-        .args(["-print", "-quit"])
-        .current_dir(repository())
-        .output()
-        .unwrap_or_else(|error| panic!("find: {error}"));
-    let built_last = newer.status.success() && newer.stdout.is_empty();
+    let stale = ["-c", "name=stale; . scripts/base.sh; stale \"$0\"", program];
+    let status = Command::new("bash").args(stale).current_dir(repository()).status();
+    let starter = if program == "cases" { "./ask equal" } else { "./plan" };
+    let built = status.unwrap_or_else(|error| panic!("bash: {error}")).code() == Some(1);
     assert!(
-        built_last,
-        "target/bin/{program} is missing or older than its sources; `rt check {program}` builds it"
+        built,
+        "target/bin/{program} is missing or older than its sources; `{starter} sheets/street-a.txt` builds it"
     );
 }
 

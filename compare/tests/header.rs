@@ -1,0 +1,67 @@
+//! The C header beside what it stands for: the functions of the archive, the codes and limits of the rules, and no others.
+
+use compare::page::Page;
+use compare::run::repository;
+use compare::street::MAX_SIGNALS;
+use std::collections::BTreeSet;
+use std::fs;
+
+fn file(name: &str) -> String {
+    fs::read_to_string(repository().join(name)).unwrap_or_else(|error| panic!("{name}: {error}"))
+}
+
+/// The names that begin with `corbatan_` and are followed by a bracket, in a text.
+fn calls(text: &str) -> BTreeSet<&str> {
+    let word = |part: &str| {
+        part.find(|letter: char| !letter.is_ascii_lowercase() && letter != '_').unwrap_or(part.len())
+    };
+    let starts = text.match_indices("corbatan_").map(|(at, _)| &text[at..]);
+    starts.filter(|rest| rest[word(rest)..].starts_with('(')).map(|rest| &rest[..word(rest)]).collect()
+}
+
+/// The number that the header defines under a name.
+fn defined(header: &str, name: &str) -> Option<usize> {
+    let line = header.lines().find(|line| line.split_whitespace().take(2).eq(["#define", name]))?;
+    line.split_whitespace().nth(2)?.parse().ok()
+}
+
+#[test]
+fn every_function_of_the_archive_is_declared_and_called() {
+    let source = file("crates/exports/src/lib.rt");
+    let exported: BTreeSet<&str> = calls(&source);
+    assert!(exported.len() >= 7 && source.matches("extern \"C\" fn").count() == exported.len());
+    for name in ["include/corbatan.h", "client/client.c", "client/stack.c"] {
+        assert_eq!(calls(&file(name)), exported, "{name}");
+    }
+    let called = calls(source.as_str()).into_iter().map(|name| format!("`{name}`"));
+    let claims = file("docs/CLAIMS.md");
+    called.for_each(|name| assert!(claims.contains(&name), "docs/CLAIMS.md has no {name}"));
+}
+
+#[test]
+fn every_code_of_the_rules_is_in_the_header() {
+    let header = file("include/corbatan.h");
+    let codes = Page::open("RULES.md").table("| Code | Name | Fault | Place |");
+    assert!(codes.len() >= 10);
+    for (row, expected) in codes.iter().zip(1..) {
+        let name = format!("CORBATAN_{}", row[1]);
+        assert_eq!((row[0].parse(), defined(&header, &name)), (Ok(expected), Some(expected)), "{name}");
+    }
+    assert_eq!(defined(&header, "CORBATAN_MAX_SIGNALS"), Some(MAX_SIGNALS));
+}
+
+#[test]
+fn the_callers_page_says_what_the_header_says() {
+    let (header, page) = (file("include/corbatan.h"), Page::open("CALLING.md"));
+    let stack = defined(&header, "CORBATAN_STACK").expect("a number of bytes");
+    page.says(&format!("`CORBATAN_STACK` bytes, {},{:03},", stack / 1_000, stack % 1_000));
+    let rows =
+        page.table("| Struct | Bytes | Where its fields start; 4 bytes each where nothing else is said |");
+    assert_eq!(rows.len(), header.matches("typedef struct ").count());
+    for row in rows {
+        let before = header.split(&format!("typedef struct {} ", row[0])).next().expect("text before it");
+        let comment = before.rsplit("/*").next().expect("a comment above it").replace("\n *", "");
+        let flowing = comment.split_whitespace().collect::<Vec<&str>>().join(" ");
+        assert!(flowing.contains(&format!("has {} bytes", row[1])), "{}: {flowing}", row[0]);
+    }
+}
