@@ -6,7 +6,7 @@ use std::ffi::OsString;
 use std::fs;
 use std::io::Write;
 use std::path::{Path, PathBuf};
-use std::process::{Command, Stdio};
+use std::process::{Command, Output, Stdio};
 use std::thread;
 
 /// A program of the repository and the words that start it.
@@ -50,6 +50,19 @@ fn words(file: &Path, maker: &str) -> Result<Vec<OsString>, String> {
     Ok(words)
 }
 
+/// Starts a command with an input, and waits for its end. It may stop reading before the end of the input, so a refused
+/// write is no fault; and it writes while it is read from.
+pub fn output(command: &mut Command, input: &[u8]) -> std::io::Result<Output> {
+    let pipes = command.stdin(Stdio::piped()).stdout(Stdio::piped()).stderr(Stdio::piped());
+    let mut child = pipes.spawn()?;
+    let mut pipe = child.stdin.take().expect("the input is a pipe");
+    let bytes = input.to_vec();
+    let writer = thread::spawn(move || drop(pipe.write_all(&bytes)));
+    let ended = child.wait_with_output()?;
+    writer.join().expect("the writer ends");
+    Ok(ended)
+}
+
 impl Program {
     /// The program at the path that the environment names, or the one that its maker left in a folder of target/.
     fn find(name: &str, variable: &str, folder: &str, maker: &str) -> Program {
@@ -79,21 +92,9 @@ impl Program {
 
     /// The same for a program that is started with words.
     pub fn answer_to(&self, words: &[&str], input: &[u8]) -> Result<Vec<u8>, String> {
-        let fault = |error: std::io::Error| format!("{}: {error}", self.name);
-        let mut child = Command::new(&self.words[0])
-            .args(&self.words[1..])
-            .args(words)
-            .stdin(Stdio::piped())
-            .stdout(Stdio::piped())
-            .stderr(Stdio::piped())
-            .spawn()
-            .map_err(fault)?;
-        let mut pipe = child.stdin.take().expect("the input is a pipe");
-        let bytes = input.to_vec();
-        // A program may stop reading before the end, so a refused write is no fault; it writes while it is read from.
-        let writer = thread::spawn(move || drop(pipe.write_all(&bytes)));
-        let ended = child.wait_with_output().map_err(fault)?;
-        writer.join().expect("the writer ends");
+        let mut command = Command::new(&self.words[0]);
+        command.args(&self.words[1..]).args(words);
+        let ended = output(&mut command, input).map_err(|error| format!("{}: {error}", self.name))?;
         if !ended.status.success() || !ended.stderr.is_empty() {
             let said = String::from_utf8_lossy(&ended.stderr).into_owned();
             return Err(format!("{} ended with {} and said: {said}", self.name, ended.status));

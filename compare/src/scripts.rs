@@ -1,12 +1,10 @@
 //! The scripts that people start, `plan` and `ask`, and what they say of a sheet.
 
-use crate::run::repository;
+use crate::run::{output, repository};
 use std::fs;
-use std::io::Write;
 use std::path::PathBuf;
-use std::process::{Command, Stdio};
+use std::process::Command;
 use std::sync::atomic::{AtomicUsize, Ordering};
-use std::thread;
 
 /// How a script ended: its status, what it printed and what it said beside that.
 #[derive(Debug)]
@@ -32,16 +30,9 @@ pub fn bash(line: &str) -> Ended {
     ended(Command::new("bash").args(["-c", line]).current_dir(repository()), b"")
 }
 
-/// Starts a command with an input, and waits for its end.
+/// Starts a command with an input, and tells how it ended.
 pub fn ended(command: &mut Command, input: &[u8]) -> Ended {
-    let pipes = command.stdin(Stdio::piped()).stdout(Stdio::piped()).stderr(Stdio::piped());
-    let mut child = pipes.spawn().unwrap_or_else(|error| panic!("{command:?}: {error}"));
-    let mut pipe = child.stdin.take().expect("the input is a pipe");
-    let bytes = input.to_vec();
-    // A script may stop reading before the end, so a refused write is no fault.
-    let writer = thread::spawn(move || drop(pipe.write_all(&bytes)));
-    let output = child.wait_with_output().unwrap_or_else(|error| panic!("{command:?}: {error}"));
-    writer.join().expect("the writer ends");
+    let output = output(command, input).unwrap_or_else(|error| panic!("{command:?}: {error}"));
     let text = |bytes: &[u8]| String::from_utf8_lossy(bytes).into_owned();
     Ended { status: output.status.code(), printed: text(&output.stdout), said: text(&output.stderr) }
 }

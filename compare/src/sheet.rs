@@ -40,7 +40,8 @@ impl<'a> Lines<'a> {
     }
 }
 
-fn number(digits: &[u8]) -> Result<i64, Refusal> {
+/// The value of 1 to 8 digits, with no zero in front of another.
+pub fn number(digits: &[u8]) -> Result<i64, Refusal> {
     let formed = (1..=8).contains(&digits.len()) && digits.iter().all(u8::is_ascii_digit);
     if !formed || (digits[0] == b'0' && digits.len() > 1) {
         return Err(SHEET);

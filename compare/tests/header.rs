@@ -28,14 +28,15 @@ fn defined(header: &str, name: &str) -> Option<usize> {
 #[test]
 fn every_function_of_the_archive_is_declared_and_called() {
     let source = file("crates/exports/src/lib.rt");
-    let exported: BTreeSet<&str> = calls(&source);
+    let exported = calls(&source);
     assert!(exported.len() >= 7 && source.matches("extern \"C\" fn").count() == exported.len());
     for name in ["include/corbatan.h", "client/client.c", "client/stack.c"] {
         assert_eq!(calls(&file(name)), exported, "{name}");
     }
-    let called = calls(source.as_str()).into_iter().map(|name| format!("`{name}`"));
     let claims = file("docs/CLAIMS.md");
-    called.for_each(|name| assert!(claims.contains(&name), "docs/CLAIMS.md has no {name}"));
+    for name in exported {
+        assert!(claims.contains(&format!("`{name}`")), "docs/CLAIMS.md has no row for {name}");
+    }
 }
 
 #[test]

@@ -3,7 +3,7 @@
 use compare::page::{sheet, Page};
 use compare::printed::plan_prints;
 use compare::scripts::{ended, look, script, Ended};
-use compare::sheet::{fault_line, read, LARGEST_SHEET};
+use compare::sheet::{fault_line, number, read, LARGEST_SHEET};
 use compare::trial::{in_parallel, Case};
 use std::process::Command;
 
@@ -204,12 +204,8 @@ fn the_typists_sheets_lead_to_their_lines() {
 
 /// Whether a line has one or two numbers, as every line of a sheet does.
 fn formed(line: &[u8]) -> bool {
-    let number = |word: &[u8]| {
-        let digits = (1..=8).contains(&word.len()) && word.iter().all(u8::is_ascii_digit);
-        digits && (word == b"0" || word[0] != b'0')
-    };
     let words: Vec<&[u8]> = line.split(|&byte| byte == b' ').collect();
-    words.len() <= 2 && words.into_iter().all(number)
+    words.len() <= 2 && words.into_iter().all(|word| number(word).is_ok())
 }
 
 #[test]
