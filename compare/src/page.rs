@@ -1,6 +1,6 @@
 //! A page of `docs/`: its tables by their header row, and its sheets with what `plan` prints for them.
 
-use crate::run::repository;
+use crate::run::{repository, text};
 use crate::sheet::read;
 use crate::street::Street;
 use std::fs;
@@ -61,9 +61,7 @@ pub fn street(name: &str) -> Street {
 
 impl Page {
     pub fn open(name: &str) -> Page {
-        let file = repository().join("docs").join(name);
-        let text = fs::read_to_string(&file).unwrap_or_else(|error| panic!("{}: {error}", file.display()));
-        Page { text }
+        Page { text: text(&format!("docs/{name}")) }
     }
 
     /// Holds the page to a sentence, wherever its lines break.

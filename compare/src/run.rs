@@ -19,6 +19,11 @@ pub fn repository() -> &'static Path {
     Path::new(env!("CARGO_MANIFEST_DIR")).parent().expect("compare/ stands in the repository")
 }
 
+/// The text of a file of the repository.
+pub fn text(name: &str) -> String {
+    fs::read_to_string(repository().join(name)).unwrap_or_else(|error| panic!("{name}: {error}"))
+}
+
 /// The kit's compiler folder for this machine: two folders above the command `rt`, then its own part.
 fn toolchain() -> Result<PathBuf, String> {
     let path = env::var_os("PATH").unwrap_or_default();

@@ -69,7 +69,7 @@ fn numbers(bytes: &[u8]) -> String {
 pub struct Folder(pub PathBuf);
 
 impl Folder {
-    pub fn new() -> Folder {
+    pub fn make() -> Folder {
         static COUNT: AtomicUsize = AtomicUsize::new(0);
         let number = COUNT.fetch_add(1, Ordering::Relaxed);
         let path = std::env::temp_dir().join(format!("corbatan-{}-{number}", std::process::id()));
@@ -94,12 +94,6 @@ impl Folder {
     /// Copies a file of the repository into the folder, at the same place and with its right to be run.
     pub fn copy(&self, name: &str) {
         fs::copy(repository().join(name), self.place(name)).unwrap_or_else(|error| panic!("{name}: {error}"));
-    }
-}
-
-impl Default for Folder {
-    fn default() -> Folder {
-        Folder::new()
     }
 }
 

@@ -7,7 +7,7 @@ use compare::equal::Pairs;
 use compare::moved::{shortest_green, MAX_PLATOON};
 use compare::page::{Page, Sample};
 use compare::random::Random;
-use compare::run::{repository, Program};
+use compare::run::{repository, text, Program};
 use compare::sheet::{read, LARGEST_SHEET, STREET_A};
 use compare::street::Street;
 use compare::streets;
@@ -178,8 +178,7 @@ fn the_client_tells_bad_words_from_a_refusal() {
 
 /// The cases of client/expected.txt: after `$ ` the client's words, and the lines that it prints.
 fn shown() -> Vec<(String, String)> {
-    let text =
-        fs::read_to_string(repository().join("client/expected.txt")).expect("client/expected.txt is there");
+    let text = text("client/expected.txt");
     let case = |part: &str| {
         let (words, lines) = part.split_once('\n').expect("a line of words");
         (words.to_string(), lines.to_string())

@@ -2,7 +2,7 @@
 //! answer that cannot be written, and that they end what they have started.
 
 use compare::page::{coded, Page};
-use compare::run::repository;
+use compare::run::{repository, text};
 use compare::scripts::{bash, ended, script, Ended, Folder};
 use compare::sheet::STREET_A;
 use std::fs;
@@ -38,7 +38,7 @@ fn a_plan_goes_out_with_the_size_of_its_street() {
 
 #[test]
 fn a_file_is_found_from_the_callers_folder_whatever_its_name() {
-    let folder = Folder::new();
+    let folder = Folder::make();
     for name in ["sheet", "-q", "12", "with a space"] {
         folder.put(name, STREET_A);
         for (script, words) in [("plan", vec!["-q"]), ("ask", vec!["-q", "measure", "0", "10"])] {
@@ -157,7 +157,7 @@ fn the_pages_tables_can_be_asked_as_they_stand() {
 
 #[test]
 fn the_commands_of_the_first_page_work() {
-    let page = fs::read_to_string(repository().join("README.md")).expect("README.md");
+    let page = text("README.md");
     let command = |line: &str| line.split('#').next().unwrap_or("").trim().to_string();
     let starts = |line: &&str| line.starts_with("    ./plan ") || line.starts_with("    ./ask ");
     let commands: Vec<String> = page.lines().filter(starts).map(command).collect();
@@ -178,7 +178,13 @@ fn what_is_asked_is_said_to_be_tested_and_refusals_are_explained() {
     let tested = "that it was asked for and printed so is tested, not proved\n";
     expect("ask", &script("ask", &["outbound", "80", a], b""), 0, "1 60 80 40 0\n180\n10\n", tested);
     let refusals = [
-        (vec!["outbound", "101", a], "refused 9 0\n", "the width 101 is not from the greater of 1 and B"),
+        (
+            vec!["outbound", "101", a],
+            "refused 9 0\n",
+            "the width 101 is not from the greater of 1 and B, the second number of the equal plan, up to 100 halves, the shortest green.\n",
+        ),
+        (vec!["platoons", "100001", "5", a], "refused 8 1\n", "the outbound platoon, 100001, is above"),
+        (vec!["measure", "201", "0", a], "refused 10 1\n", "the offset of signal 1, 201, is not below the cycle of 200"),
         (vec!["platoons", "5", "100001", a], "refused 8 2\n", "the inbound platoon, 100001, is above"),
         (
             vec!["measure", "0", "200", a],
@@ -207,7 +213,7 @@ fn what_is_asked_is_said_to_be_tested_and_refusals_are_explained() {
 
 /// A folder with the scripts and no crate, and with a kit of its own, whose `rt` runs a line of sh.
 fn house(rt: &str) -> Folder {
-    let folder = Folder::new();
+    let folder = Folder::make();
     for file in ["plan", "ask", "scripts/base.sh", "scripts/answer.sh", "scripts/sheet.awk", "crates.txt"] {
         folder.copy(file);
     }

@@ -1,21 +1,16 @@
 //! The C header beside what it stands for: the functions of the archive, the codes and limits of the rules, and no others.
 
 use compare::page::Page;
-use compare::run::repository;
+use compare::run::text;
 use compare::street::MAX_SIGNALS;
 use std::collections::BTreeSet;
-use std::fs;
 
-fn file(name: &str) -> String {
-    fs::read_to_string(repository().join(name)).unwrap_or_else(|error| panic!("{name}: {error}"))
-}
-
-/// The names that begin with `corbatan_` and are followed by a bracket, in a text.
-fn calls(text: &str) -> BTreeSet<&str> {
+/// The names in a source that begin with `corbatan_` and are followed by a bracket.
+fn calls(source: &str) -> BTreeSet<&str> {
     let word = |part: &str| {
         part.find(|letter: char| !letter.is_ascii_lowercase() && letter != '_').unwrap_or(part.len())
     };
-    let starts = text.match_indices("corbatan_").map(|(at, _)| &text[at..]);
+    let starts = source.match_indices("corbatan_").map(|(at, _)| &source[at..]);
     starts.filter(|rest| rest[word(rest)..].starts_with('(')).map(|rest| &rest[..word(rest)]).collect()
 }
 
@@ -27,13 +22,13 @@ fn defined(header: &str, name: &str) -> Option<usize> {
 
 #[test]
 fn every_function_of_the_archive_is_declared_and_called() {
-    let source = file("crates/exports/src/lib.rt");
+    let source = text("crates/exports/src/lib.rt");
     let exported = calls(&source);
     assert!(exported.len() >= 7 && source.matches("extern \"C\" fn").count() == exported.len());
     for name in ["include/corbatan.h", "client/client.c", "client/stack.c"] {
-        assert_eq!(calls(&file(name)), exported, "{name}");
+        assert_eq!(calls(&text(name)), exported, "{name}");
     }
-    let claims = file("docs/CLAIMS.md");
+    let claims = text("docs/CLAIMS.md");
     for name in exported {
         assert!(claims.contains(&format!("`{name}`")), "docs/CLAIMS.md has no row for {name}");
     }
@@ -41,7 +36,7 @@ fn every_function_of_the_archive_is_declared_and_called() {
 
 #[test]
 fn every_code_of_the_rules_is_in_the_header() {
-    let header = file("include/corbatan.h");
+    let header = text("include/corbatan.h");
     let codes = Page::open("RULES.md").table("| Code | Name | Fault | Place |");
     assert!(codes.len() >= 10);
     for (row, expected) in codes.iter().zip(1..) {
@@ -53,7 +48,7 @@ fn every_code_of_the_rules_is_in_the_header() {
 
 #[test]
 fn the_callers_page_says_what_the_header_says() {
-    let (header, page) = (file("include/corbatan.h"), Page::open("CALLING.md"));
+    let (header, page) = (text("include/corbatan.h"), Page::open("CALLING.md"));
     let stack = defined(&header, "CORBATAN_STACK").expect("a number of bytes");
     page.says(&format!("`CORBATAN_STACK` bytes, {},{:03},", stack / 1_000, stack % 1_000));
     let rows =

@@ -4,6 +4,7 @@ use compare::page::{sheet, Page};
 use compare::printed::plan_prints;
 use compare::scripts::{ended, look, script, Ended};
 use compare::sheet::{fault_line, number, read, LARGEST_SHEET};
+use compare::street::Street;
 use compare::trial::{in_parallel, Case};
 use std::process::Command;
 
@@ -228,39 +229,138 @@ fn one_command_finds_the_ill_formed_lines() {
     assert!(found > 20, "{found} lines were found");
 }
 
-/// Holds what is said of a sheet to the model: the line of its first fault, with its text; nothing where it is planned.
+fn counted(count: i64, thing: &str) -> String {
+    format!("{count} {thing}{}", if count == 1 { "" } else { "s" })
+}
+
+/// A number in a unit, with the decimals that it needs.
+fn in_unit(value: i64, unit: i64) -> String {
+    let digits = unit.to_string().len() - 1;
+    let text = format!("{}.{:0digits$}", value / unit, value % unit);
+    text.trim_end_matches('0').trim_end_matches('.').to_string()
+}
+
+/// What is said of a street that is planned.
+fn size(street: &Street) -> String {
+    let (cycle, n) = (in_unit(street.cycle, 10), street.signals());
+    let [least, most] = [street.reds.iter().min(), street.reds.iter().max()].map(|red| *red.expect("a red"));
+    let to = if least == most { String::new() } else { format!(" to {}", in_unit(most, 10)) };
+    let way = in_unit(street.distances[n - 1] - street.distances[0], 1_000);
+    let way = if n == 1 { "one signal".to_string() } else { format!("{way} m from signal 1 to signal {n}") };
+    format!("a cycle of {cycle} s, reds of {}{to} s, {way}\n", in_unit(least, 10))
+}
+
+/// The lines of a sheet, without their ends.
+fn lines(sheet: &[u8]) -> Vec<&[u8]> {
+    sheet.split(|&byte| byte == 10).collect()
+}
+
+/// A line in quotes, where print can show it whole.
+fn quoted(line: &[u8]) -> Option<String> {
+    let plain = line.len() <= 60 && line.iter().all(|byte| (32..127).contains(byte));
+    Some(format!("\"{}\"", String::from_utf8_lossy(line))).filter(|_| plain)
+}
+
+/// What is said of a line that is not formed as it should be, by the count of signals above it.
+fn ill_formed(sheet: &[u8], line: usize) -> String {
+    let signals = lines(sheet).get(2).and_then(|third| number(third).ok()).unwrap_or(0);
+    let (k, links) = (line as i64 - 3, signals - 1);
+    let should = match (line, k - signals) {
+        (1, _) => "1, the count of the first section".to_string(),
+        (2, _) => "the cycle".to_string(),
+        (3, _) => "the count of signals".to_string(),
+        (_, past) if past <= 0 => format!("the distance and the red of signal {k} of {signals}"),
+        (_, 1) => format!("the count of links, {links}"),
+        (_, past) if past <= signals => {
+            format!("the outbound and the inbound speed of link {} of {links}", past - 1)
+        }
+        _ => {
+            let whole =
+                format!("one of {} has {}", counted(signals, "signal"), counted(2 * signals + 3, "line"));
+            return format!("line {line} is one too many, since {whole}");
+        }
+    };
+    format!("line {line} should have {should}")
+}
+
+/// What is said of a wrong count.
+fn miscounted(sheet: &[u8], line: usize) -> String {
+    if line == 3 {
+        return "a street has 1 to 32 signals.".to_string();
+    }
+    let signals = number(lines(sheet)[2]).expect("a count of signals");
+    let has = if signals == 1 { "has" } else { "have" };
+    format!("{} {has} {}.", counted(signals, "signal"), counted(signals - 1, "link"))
+}
+
+/// The line that a code from 4 to 7 is about, and what is said of it.
+fn out_of_range(street: &Street, code: i64, place: i64) -> (usize, String) {
+    let (signal, cycle) = (3 + place as usize, street.cycle);
+    match code {
+        4 => (2, "the cycle is not from 10 to 6,000 ticks, tenths of a second.".to_string()),
+        5 => {
+            let range = format!(
+                "the red of signal {place}, its second number, is not from 1 to {} ticks; ",
+                cycle - 1
+            );
+            (signal, range + &format!("the cycle on line 2 is {cycle} ticks, {} s.", in_unit(cycle, 10)))
+        }
+        6 => {
+            let far = street.distances[signal - 4] > 20_000_000;
+            let not_above = format!("not above that of signal {}; distances are from the origin", place - 1);
+            let fault = if far { "above 20,000,000 mm.".to_string() } else { not_above };
+            (signal, format!("the distance of signal {place}, its first number, is {fault}"))
+        }
+        _ => {
+            let ends = format!("from signal {place} to signal {}", place + 1);
+            let line = 4 + street.signals() + place as usize;
+            (line, format!("a speed of link {place}, {ends}, is not from 1,000 to 40,000 mm/s;"))
+        }
+    }
+}
+
+/// The line of a refused sheet's fault, and what is to be said of it, by the model. One that is too long has the fault
+/// that it would have if it were not.
+fn expected(sheet: &[u8], code: i64, place: i64) -> (usize, String) {
+    let Some(line) = fault_line(sheet) else {
+        return out_of_range(&read(sheet).expect("a sheet"), code, place);
+    };
+    let first = read(&sheet[..sheet.len().min(LARGEST_SHEET)]).err().map(|refusal| refusal.code);
+    let told = if first == Some(2) { miscounted(sheet, line) } else { ill_formed(sheet, line) };
+    (line, told)
+}
+
+/// Holds what is said of a sheet to the model: the size of a street that is planned and no line; else the line of the
+/// first fault, what should stand there and what does.
 fn misled(case: &Case) -> Option<String> {
     let seen = &case.sheet[..case.sheet.len().min(LARGEST_SHEET + 1)];
     let prints = plan_prints(&case.sheet);
     let numbers: Vec<i64> = prints.split_whitespace().filter_map(|word| word.parse().ok()).collect();
     let fault = |what: &str, said: &str| Some(format!("{what}: {prints}{said}on {case:?}"));
     if !prints.starts_with("refused") {
-        let (said, size) = (look(seen, 1, 0, "equal"), look(seen, 0, 0, "equal"));
         let street = read(&case.sheet).expect("a planned sheet");
-        let cycle = format!("a cycle of {}", street.cycle / 10);
-        let led = said != "refused, code 1, place 0.\n" || !size.starts_with(&cycle);
-        return if led { fault("a planned sheet", &said) } else { None };
+        let (said, shown) = (look(seen, 1, 0, "equal"), look(seen, 0, 0, "equal"));
+        let good = said == "refused, code 1, place 0.\n" && shown == size(&street);
+        return if good { None } else { fault("a planned sheet", &(said + &shown)) };
     }
     let said = look(seen, numbers[0], numbers[1], "equal");
-    let other = look(seen, 3 - numbers[0].min(2), 0, "equal");
-    let Some(line) = fault_line(seen) else {
-        let line =
-            3 + numbers[1] as usize + if numbers[0] == 7 { 1 + read(seen).unwrap().signals() } else { 0 };
-        let line = if numbers[0] == 4 { 2 } else { line };
-        return if names(&said, line) { None } else { fault("a number", &said) };
-    };
-    let text = seen.split(|&byte| byte == 10).nth(line - 1).unwrap_or(b"");
-    let plain = text.len() <= 60 && text.iter().all(|byte| (32..127).contains(byte));
-    let shown = text.is_empty() || !plain || said.contains(&format!("\"{}\"", String::from_utf8_lossy(text)));
+    let (line, told) = expected(seen, numbers[0], numbers[1]);
+    let text = lines(seen).get(line - 1).copied().unwrap_or(b"");
+    let shown = text.is_empty() || quoted(text).map_or(true, |quote| said.contains(&quote));
+    // What ends with a number is said to its end, so that signal 1 of 10 is not taken for signal 1 of 1.
+    let whole = [",", ".", ""].iter().any(|end| {
+        let closed = !end.is_empty() || !told.ends_with(char::is_numeric);
+        closed && said.contains(&format!("{told}{end}"))
+    });
     let long = case.sheet.len() > LARGEST_SHEET;
-    if !names(&said, line) || !shown || said.contains("more than 2,048 bytes") != long {
-        return fault("another line", &said);
+    if !names(&said, line) || !whole || !shown || said.contains("more than 2,048 bytes") != long {
+        return fault(&format!("not `{told}`"), &said);
     }
+    let other = look(seen, 3 - numbers[0].min(2), 0, "equal");
     if names(&other, line) && !long {
-        fault("the other code", &other)
-    } else {
-        None
+        return fault("the other code", &other);
     }
+    None
 }
 
 #[test]

@@ -1,13 +1,14 @@
 //! The sample sheets through `plan`: each gets what sheets/README.md says, and the README has a row for each.
 
+use compare::page::sheet;
 use compare::printed::plan_prints;
-use compare::run::{repository, Program};
+use compare::run::{repository, text, Program};
 use std::collections::BTreeMap;
 use std::fs;
 
 /// The file names and texts of the README's table, whose rows give file, meaning, first line and offsets.
 fn table() -> BTreeMap<String, String> {
-    let text = fs::read_to_string(repository().join("sheets/README.md")).expect("sheets/README.md is there");
+    let text = text("sheets/README.md");
     let plain = |cell: &str| cell.trim().trim_matches('`').to_string();
     let row = |line: &str| {
         let cells: Vec<String> = line.split('|').map(plain).collect();
@@ -24,10 +25,6 @@ fn samples() -> Vec<String> {
     let mut names: Vec<String> = names.filter(|name| name.ends_with(".txt")).collect();
     names.sort();
     names
-}
-
-fn sheet(name: &str) -> Vec<u8> {
-    fs::read(repository().join("sheets").join(name)).expect("a sample sheet")
 }
 
 #[test]

@@ -1,20 +1,15 @@
 //! docs/WORKING.md held to the repository: what it names is there, and what it has to name is named.
 
 use compare::page::{coded, Page};
-use compare::run::repository;
+use compare::run::{repository, text};
 use std::collections::BTreeSet;
 use std::fs;
-use std::path::PathBuf;
-
-fn text(file: PathBuf) -> String {
-    fs::read_to_string(&file).unwrap_or_else(|error| panic!("{}: {error}", file.display()))
-}
 
 /// Every file of the comparison, one after the other.
 fn compared() -> String {
     let folders = ["compare/src", "compare/tests"].map(|folder| fs::read_dir(repository().join(folder)));
     let files = folders.into_iter().flat_map(|folder| folder.expect("a folder of compare/"));
-    files.map(|file| text(file.expect("a file").path())).collect()
+    files.map(|file| fs::read_to_string(file.expect("a file").path()).expect("a source")).collect()
 }
 
 #[test]
@@ -37,7 +32,7 @@ fn every_file_and_test_that_the_page_names_is_there() {
 #[test]
 fn every_crate_part_and_variable_is_on_the_page() {
     let page = Page::open("WORKING.md").text;
-    let (crates, gate) = (text(repository().join("crates.txt")), text(repository().join("test")));
+    let (crates, gate) = (text("crates.txt"), text("test"));
     for name in crates.lines().filter(|line| !line.starts_with('#')).filter_map(|line| line.split(':').next())
     {
         let quoted = format!("`{name}` ");
