@@ -8,7 +8,7 @@ use Rattle.circle.specs.Over.{firstBelow}
 use Rattle.circle.specs.Method.{Timed}
 use Rattle.circle.specs.Bands.{Way, width, bandStart, outboundWay, inboundWay}
 use Rattle.street.specs.Lists.{Lists, signals}
-use Rattle.street.specs.Codes.{codeNumber}
+use Rattle.street.specs.Codes.{codeOf, placeOf}
 use Rattle.street.specs.Checks.{unless, faultAt, firstFault, countCheck, cycleCheck, redCheck, distanceCheck, speedCheck}
 use Rattle.street.specs.Times.{timed}
 use Rattle.street.specs.declared.Code.the-variants.{Count, Offset}
@@ -76,7 +76,16 @@ pub record Numbers : Type 0 where
 abbrev pub noBand : Band
 noBand = record { width = 0; start = 0 }
 
+-- what the checks of an answered call came to, and the bands, if there are any (01, 'Codes, in order of checking')
+abbrev pub verdictOf : Measurement → Verdict
+verdictOf (measurement.Found m) = verdict.Passed
+verdictOf (measurement.Refused f) = verdict.Refused f
+
+abbrev pub bandsOf : Measurement → Measured
+bandsOf (measurement.Found m) = m
+bandsOf (measurement.Refused f) = record { outbound = noBand; inbound = noBand }
+
 -- a measure has code and place 0, a refusal has no width and no start (01, 'Codes, in order of checking')
 abbrev pub numbersOf : Measurement → Numbers
-numbersOf (measurement.Found m) = record { code = 0; place = 0; outbound = m .outbound; inbound = m .inbound }
-numbersOf (measurement.Refused f) = record { code = codeNumber (f .code); place = f .place; outbound = noBand; inbound = noBand }
+numbersOf a =
+    record { code = codeOf (verdictOf a); place = placeOf (verdictOf a); outbound = bandsOf a .outbound; inbound = bandsOf a .inbound }

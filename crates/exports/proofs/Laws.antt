@@ -3,7 +3,7 @@ use Prim.Native.Nat.{ℕ}
 use mathlib.Core.Path.{_≡_, sym, ap, _∙_}
 use mathlib.Core.List.{List}
 use lib.IntN.{ℤ}
-use Rattle.street.specs.Codes.{codeNumber}
+use Rattle.street.specs.Codes.{codeNumber, codeOf, placeOf}
 use Rattle.street.specs.Lists.{Lists}
 use Rattle.street.specs.declared.Refusal.{Refusal}
 use Rattle.street.specs.declared.Verdict.the-variants as verdict
@@ -19,7 +19,7 @@ use Rattle.bands.specs.Measure.{noBand}
 use Rattle.bands.specs.declared.Measurement.the-variants as measurement
 use Rattle.exports.specs.declared.CorbatanPlan.{CorbatanPlan}
 use Rattle.exports.specs.declared.CorbatanSheet.{CorbatanSheet}
-use Rattle.exports.specs.Flat.{planFields, flatPlan, measureFields, flatMeasure, flatSheet, judged, flatReading}
+use Rattle.exports.specs.Flat.{planFields, flatPlan, measureFields, flatMeasure, flatSheet, flatReading}
 use Rattle.exports.specs.Calls.{Equal, Requested}
 
 -- a plan with another B
@@ -60,8 +60,8 @@ requested-flat asked l entry exit a r found e = record { reply = e ∙ ap flatPl
 -- a reading by its verdict
 module _ (r r′ : Reading) (x : CorbatanSheet) (same : r ≡ r′) where
   pub reading-passed : r .verdict ≡ verdict.Passed → x ≡ flatSheet 0 0 (r .sheet) → x ≡ flatReading r′
-  reading-passed v e = e ∙ ap (λ w. judged w (r .sheet)) (sym v) ∙ ap flatReading same
+  reading-passed v e = e ∙ ap (λ w. flatSheet (codeOf w) (placeOf w) (r .sheet)) (sym v) ∙ ap flatReading same
 
   pub reading-refused : (f : Refusal) (code : ℕ) → r .verdict ≡ verdict.Refused f → code ≡ codeNumber (f .code) → x ≡ flatSheet code (f .place) (r .sheet) → x ≡ flatReading r′
   reading-refused f code v k e =
-      e ∙ ap (λ n. flatSheet n (f .place) (r .sheet)) k ∙ ap (λ w. judged w (r .sheet)) (sym v) ∙ ap flatReading same
+      e ∙ ap (λ n. flatSheet n (f .place) (r .sheet)) k ∙ ap (λ w. flatSheet (codeOf w) (placeOf w) (r .sheet)) (sym v) ∙ ap flatReading same

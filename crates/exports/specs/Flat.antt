@@ -1,8 +1,6 @@
 -- The library's replies as C's flat structs: the numbers that the library's own definitions give each reply, one field for each.
 use Prim.Native.Nat.{ℕ}
-use Rattle.street.specs.Codes.{codeNumber}
-use Rattle.street.specs.declared.Verdict.{Verdict}
-use Rattle.street.specs.declared.Verdict.the-variants as verdict
+use Rattle.street.specs.Codes.{codeOf, placeOf}
 use Rattle.sheet.specs.declared.Sheet.{Sheet}
 use Rattle.sheet.specs.declared.Reading.{Reading}
 use Rattle.plans.specs.Answers as plans
@@ -63,12 +61,8 @@ flatSheet code place s =
     }
 
 -- the same with a verdict's code and place
-abbrev pub judged : Verdict → Sheet → CorbatanSheet
-judged verdict.Passed s = flatSheet 0 0 s
-judged (verdict.Refused f) s = flatSheet (codeNumber (f .code)) (f .place) s
-
 abbrev pub flatReading : Reading → CorbatanSheet
-flatReading r = judged (r .verdict) (r .sheet)
+flatReading r = flatSheet (codeOf (r .verdict)) (placeOf (r .verdict)) (r .sheet)
 
 abbrev pub flatText : Printed → CorbatanText
 flatText t = record { count = t .count; bytes = t .bytes }

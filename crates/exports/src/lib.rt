@@ -2,10 +2,10 @@
 // pointer and a count to C. C has no enums with fields, so a reply is one struct, whose code is 0 where nothing was refused.
 use bands::Measurement;
 use plans::Answer;
-use printed::code_number;
 use sheet::Sheet;
 use street::Street;
 use street::Verdict;
+use street::code_number;
 ghost use mathlib.Core.Path.{_≡_};
 ghost use Rattle.street.specs.Limits.{maxSignals};
 ghost use Rattle.street.specs.Lists.{typed};

@@ -1,7 +1,7 @@
 -- The numbers of an answer, by document 01: a refusal has its code and place and is 0 elsewhere, a plan has code and place 0.
 use Prim.Native.Nat.{ℕ}
 use lib.IntN.{pos}
-use Rattle.street.specs.Codes.{codeNumber}
+use Rattle.street.specs.Codes.{codeOf, placeOf}
 use Rattle.street.specs.declared.Verdict.{Verdict}
 use Rattle.street.specs.declared.Verdict.the-variants as verdict
 use Rattle.plans.specs.declared.Plan.{Plan}
@@ -18,9 +18,18 @@ pub record Numbers : Type 0 where
 abbrev pub noPlan : Plan
 noPlan = record { reference = 0; b = pos 0; outbound = 0; inbound = 0; rounded = 0; starts = 0; ends = 0 }
 
+-- what the checks of an answered call came to
+abbrev pub verdictOf : Answer → Verdict
+verdictOf (answer.Planned p) = verdict.Passed
+verdictOf (answer.Refused f) = verdict.Refused f
+
+-- and the plan, if there is one
+abbrev pub planOf : Answer → Plan
+planOf (answer.Planned p) = p
+planOf (answer.Refused f) = noPlan
+
 abbrev pub numbersOf : Answer → Numbers
-numbersOf (answer.Planned p) = record { code = 0; place = 0; plan = p }
-numbersOf (answer.Refused f) = record { code = codeNumber (f .code); place = f .place; plan = noPlan }
+numbersOf a = record { code = codeOf (verdictOf a); place = placeOf (verdictOf a); plan = planOf a }
 
 -- the answer to a call: its refusal, or where every check passed the plan
 abbrev pub answered : Verdict → Plan → Answer

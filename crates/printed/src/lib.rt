@@ -2,15 +2,14 @@
 use plans::Answer;
 use plans::Plan;
 use sheet::Sheet;
-use street::Code;
 use street::Refusal;
 use street::Street;
 use street::Verdict;
+use street::code_number;
 ghost use Prim.Native.Nat.{_+_, _*_, _<_, _≤_};
 ghost use mathlib.Core.Path.{_≡_};
 ghost use mathlib.Core.List.{[], _∷_, _++_};
 ghost use lib.ListN.{length, take};
-ghost use Rattle.street.specs.Codes.{codeNumber};
 ghost use Rattle.sheet.specs.Decimal.{decimal};
 ghost use Rattle.printed.specs.Text.{signedDecimal, planLine, offsetLines, refusalLine, textOf, printedOf, Prints};
 ghost use Rattle.printed.specs.Added.{Added};
@@ -101,24 +100,6 @@ fn offset_lines(p: Printed, signals: usize, offsets: [u32; 32]) -> Printed
         lines = number(lines, offsets[i], LINE_END);
     }
     lines
-}
-
-// A refusal's number.
-pub fn code_number(code: Code) -> u32
-    ensures { λ r. ⌜ r ≡ codeNumber code ⌝ }
-{
-    match code {
-        Code::Sheet => 1,
-        Code::Count => 2,
-        Code::Room => 3,
-        Code::Cycle => 4,
-        Code::Red => 5,
-        Code::Distance => 6,
-        Code::Speed => 7,
-        Code::Platoon => 8,
-        Code::Width => 9,
-        Code::Offset => 10,
-    }
 }
 
 // The text and some bytes more.

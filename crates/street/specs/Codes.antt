@@ -1,8 +1,11 @@
--- The number that document 01 gives each refusal (01, 'Codes, in order of checking').
+-- A verdict in numbers (01, 'Codes, in order of checking'): every call's reply has these two first.
 use Prim.Native.Nat.{ℕ}
 use Rattle.street.specs.declared.Code.{Code}
 use Rattle.street.specs.declared.Code.the-variants.{Sheet, Count, Room, Cycle, Red, Distance, Speed, Platoon, Width, Offset}
+use Rattle.street.specs.declared.Verdict.{Verdict}
+use Rattle.street.specs.declared.Verdict.the-variants.{Passed, Refused}
 
+-- the number that document 01 gives each refusal
 abbrev pub codeNumber : Code → ℕ
 codeNumber Sheet = 1
 codeNumber Count = 2
@@ -14,3 +17,13 @@ codeNumber Speed = 7
 codeNumber Platoon = 8
 codeNumber Width = 9
 codeNumber Offset = 10
+
+-- the code of a verdict: its refusal's number, 0 where every check passed
+abbrev pub codeOf : Verdict → ℕ
+codeOf Passed = 0
+codeOf (Refused f) = codeNumber (f .code)
+
+-- and its place: the refusal's, 0 where every check passed
+abbrev pub placeOf : Verdict → ℕ
+placeOf Passed = 0
+placeOf (Refused f) = f .place

@@ -1,5 +1,5 @@
 -- The limits of a street (01, 'Units and the street'). The code's associated constants are proved equal to these.
-use Prim.Native.Nat.{ℕ}
+use Prim.Native.Nat.{ℕ, _+_, _-_, _*_, _/_}
 
 -- signals on a street
 abbrev pub minSignals : ℕ
@@ -15,6 +15,10 @@ minCycle = 10
 abbrev pub maxCycle : ℕ
 maxCycle = 6000
 
+-- the cycle in halves
+abbrev pub maxHalves : ℕ
+maxHalves = 2 * maxCycle
+
 -- a red, in ticks; it is also below the cycle
 abbrev pub minRed : ℕ
 minRed = 1
@@ -29,6 +33,10 @@ minSpeed = 1000
 
 abbrev pub maxSpeed : ℕ
 maxSpeed = 40000
+
+-- a travel time from end to end, in ticks, and a bound on it: no link takes longer than all of the distance at the least speed, rounded up
+abbrev pub maxTime : ℕ
+maxTime = (maxSignals - 1) * (10 * maxDistance / minSpeed + 1)
 
 -- a platoon, in halves; the least is 0
 abbrev pub maxPlatoon : ℕ

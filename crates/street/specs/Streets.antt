@@ -4,7 +4,7 @@ use mathlib.Core.List.{List, _++_}
 use lib.ListN.{drop, getD, replicate}
 use Rattle.circle.specs.Over.{listBelow}
 use Rattle.circle.specs.Method.{Timed}
-use Rattle.street.specs.Limits.{minSignals, maxSignals, minCycle, maxCycle, minRed}
+use Rattle.street.specs.Limits.{minSignals, maxSignals, minCycle, maxCycle, minRed, maxTime}
 use Rattle.street.specs.Lists.{Lists, signals}
 use Rattle.street.specs.Checks.{planChecks}
 use Rattle.street.specs.Times.{timed, m}
@@ -61,7 +61,7 @@ timedStreet s =
       inbound = λ j. getD (s .inbound) j 0;
     }
 
--- what holds of every street whose checks passed, and what the search builds on; 6,200,031 ticks are 31 links of at most 200,001
+-- what holds of every street whose checks passed, and what the search builds on
 pub record Sound (s : Street) : Type 0 where
   pub some : minSignals ≤ s .signals
   pub few : s .signals ≤ maxSignals
@@ -69,6 +69,6 @@ pub record Sound (s : Street) : Type 0 where
   pub longest : s .cycle ≤ maxCycle
   pub stops : (k : ℕ) → k < s .signals → minRed ≤ getD (s .reds) k 0
   pub goes : (k : ℕ) → k < s .signals → getD (s .reds) k 0 < s .cycle
-  pub out : (k : ℕ) → k < s .signals → getD (s .outbound) k 0 ≤ 6200031
-  pub back : (k : ℕ) → k < s .signals → getD (s .inbound) k 0 ≤ 6200031
+  pub out : (k : ℕ) → k < s .signals → getD (s .outbound) k 0 ≤ maxTime
+  pub back : (k : ℕ) → k < s .signals → getD (s .inbound) k 0 ≤ maxTime
   pub links : s .rounded < s .signals

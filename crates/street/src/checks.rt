@@ -1,21 +1,15 @@
 // Each check of a street by itself, in the order of document 01's code table, and the first fault of a plan's checks.
 use crate::Code;
-use crate::Refusal;
 use crate::Street;
 use crate::Verdict;
+use crate::refused;
 ghost use mathlib.Core.Path.{_≡_};
 ghost use Prim.Native.Nat.{_≤_, _<_};
 ghost use mathlib.Core.Bool.{not};
 ghost use lib.ListN.{length};
 ghost use Rattle.street.specs.Limits.{maxSignals, minSpeed, maxSpeed};
 ghost use Rattle.street.specs.Lists.{typed};
-ghost use Rattle.street.specs.Checks.{refuse, within, _or_, badDistance, countCheck, roomCheck, cycleCheck, redCheck, distanceCheck, speedCheck, planChecks};
-
-fn refused(code: Code, place: u32) -> Verdict
-    ensures { λ r. ⌜ r ≡ refuse code place ⌝ }
-{
-    Verdict::Refused(Refusal { code, place })
-}
+ghost use Rattle.street.specs.Checks.{within, _or_, badDistance, countCheck, roomCheck, cycleCheck, redCheck, distanceCheck, speedCheck, planChecks};
 
 // The lists' lengths are judged before the number of links is formed, so no count of 0 loses 1.
 fn count(signals: usize, distances: usize, outbound: usize, inbound: usize) -> Verdict

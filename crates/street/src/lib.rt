@@ -6,10 +6,11 @@ mod times;
 ghost use mathlib.Core.Path.{_≡_};
 ghost use Rattle.street.specs.Limits.{minSignals, maxSignals, minCycle, maxCycle, minRed, maxDistance, minSpeed, maxSpeed, maxPlatoon};
 ghost use Rattle.street.specs.Lists.{typed};
-ghost use Rattle.street.specs.Checks.{planChecks};
+ghost use Rattle.street.specs.Codes.{codeNumber};
+ghost use Rattle.street.specs.Checks.{refuse, planChecks};
 ghost use Rattle.street.specs.Streets.{surveyed, streetOf, noStreet};
 
-// The refusals of document 01, in the order of its table; specs/Codes.antt gives each its number.
+// The refusals of document 01, in the order of its table; `code_number` answers the number of each.
 pub enum Code {
     Sheet,
     Count,
@@ -33,6 +34,31 @@ pub struct Refusal {
 pub enum Verdict {
     Passed,
     Refused(Refusal),
+}
+
+// A refusal's number.
+pub fn code_number(code: Code) -> u32
+    ensures { λ r. ⌜ r ≡ codeNumber code ⌝ }
+{
+    match code {
+        Code::Sheet => 1,
+        Code::Count => 2,
+        Code::Room => 3,
+        Code::Cycle => 4,
+        Code::Red => 5,
+        Code::Distance => 6,
+        Code::Speed => 7,
+        Code::Platoon => 8,
+        Code::Width => 9,
+        Code::Offset => 10,
+    }
+}
+
+// The verdict of a check that found a fault.
+pub fn refused(code: Code, place: u32) -> Verdict
+    ensures { λ r. ⌜ r ≡ refuse code place ⌝ }
+{
+    Verdict::Refused(Refusal { code, place })
 }
 
 // A street whose checks have all passed, as the search needs it: how many signals, the cycle in ticks, each signal's red in
