@@ -67,7 +67,7 @@ module _ (l : Lists) (offsets : List ℕ) where
       ∙ ap (λ t. orNext (orNext counts (orNext (unless t Room) (firstFault (ranges [])))) last) (sym (le-leb (signals l) (signals l) self))
 
 -- the offsets' check passed: each is on the cycle
-pub placed-on : (s : Street) (offsets : List ℕ) → length offsets ≡ s .signals → offsetCheck (s .cycle) offsets ≡ verdict.Passed → Placed s offsets
+pub placed-on : (s : Street) (offsets : List ℕ) → length offsets ≡ s .road .signals → offsetCheck (s .cycle) offsets ≡ verdict.Passed → Placed s offsets
 unfolding offsetCheck
 placed-on s offsets count e =
     record {

@@ -44,11 +44,11 @@ wayOf direction s offsets =
       lag = lagOf direction s;
     }
 
-module _ (s : Street) (ok : Sound s) (direction : Direction) (offsets ends : List ℕ) (is : ends ≡ padded (s .signals) (endOf direction (timedStreet s) offsets)) where
-  end-at : (j : ℕ) → j < s .signals → getD ends j 0 ≡ endOf direction (timedStreet s) offsets j
+module _ (s : Street) (ok : Sound s) (direction : Direction) (offsets ends : List ℕ) (is : ends ≡ padded (s .road .signals) (endOf direction (timedStreet s) offsets)) where
+  end-at : (j : ℕ) → j < s .road .signals → getD ends j 0 ≡ endOf direction (timedStreet s) offsets j
   end-at j l =
       ap (λ xs. getD xs j 0) is
-      ∙ getD-listBelow (s .signals) (endOf direction (timedStreet s) offsets) (drop (s .signals) (replicate maxSignals 0)) j 0 l
+      ∙ getD-listBelow (s .road .signals) (endOf direction (timedStreet s) offsets) (drop (s .road .signals) (replicate maxSignals 0)) j 0 l
 
   pub ends-on : OnCycle s ends
   ends-on =
@@ -118,4 +118,4 @@ module _ (l : Lists) (offsets : List ℕ) where
 
 -- the street of a survey that passed
 pub survey-onward : (l : Lists) (room : ℕ) (s : Street) → s ≡ streetOf l → planChecks l room ≡ verdict.Passed → Onward s
-survey-onward l room s e passed = subst Onward (sym e) (onward l (omega (arith, sound l room passed .some)))
+survey-onward l room s e passed = subst Onward (sym e) (onward l (omega (arith, sound l room passed .road .some)))

@@ -125,10 +125,10 @@ module _ (h n : ℕ) (red : ℕ → ℕ) (ends : List ℕ) (ok : Fitting h n red
 
 -- an instant on the cycle for each signal, from 0 to H - 1
 pub record OnCycle (s : Street) (ends : List ℕ) : Type 0 where
-  pub each : (j : ℕ) → j < s .signals → getD ends j 0 < halves (timedStreet s)
+  pub each : (j : ℕ) → j < s .road .signals → getD ends j 0 < halves (timedStreet s)
 
 -- a sound street's reds fit its cycle
-pub fitting : (s : Street) (ends : List ℕ) → Sound s → OnCycle s ends → Fitting (halves (timedStreet s)) (s .signals) (timedStreet s .red) ends
+pub fitting : (s : Street) (ends : List ℕ) → Sound s → OnCycle s ends → Fitting (halves (timedStreet s)) (s .road .signals) (timedStreet s .red) ends
 fitting s ends ok on =
     record {
       turns = omega (arith, ok .shortest);

@@ -1,7 +1,7 @@
 -- What `measure` answers (01, 'Measuring'): the first fault of its checks, or each direction's width and the smallest start that attains it, by the instants that are clear.
 use Prim.Native.Nat.{ℕ, _*_}
 use mathlib.Core.Bool.{Bool}
-use mathlib.Core.List.{List, [], _∷_}
+use mathlib.Core.List.{List, [], _∷_, _++_}
 use lib.ListN.{length, getD}
 use lib.Dec.{leb, eqb}
 use Rattle.circle.specs.Over.{firstBelow}
@@ -9,7 +9,7 @@ use Rattle.circle.specs.Method.{Timed}
 use Rattle.circle.specs.Bands.{Way, width, bandStart, outboundWay, inboundWay}
 use Rattle.street.specs.Lists.{Lists, signals}
 use Rattle.street.specs.Codes.{codeOf, placeOf}
-use Rattle.street.specs.Checks.{unless, faultAt, firstFault, countCheck, cycleCheck, redCheck, distanceCheck, speedCheck}
+use Rattle.street.specs.Checks.{unless, faultAt, firstFault, cycleCheck, counts, numberChecks}
 use Rattle.street.specs.Times.{timed}
 use Rattle.street.specs.declared.Code.the-variants.{Count, Offset}
 use Rattle.street.specs.declared.Verdict.{Verdict}
@@ -35,14 +35,9 @@ offsetCheck cycle offsets = faultAt Offset (firstBelow (length offsets) (badOffs
 unfoldable pub measureChecks : Lists → List ℕ → Verdict
 measureChecks l offsets =
     firstFault
-    (countCheck (signals l) (length (l .distances)) (length (l .outbound)) (length (l .inbound))
-    ∷ sizeCheck (signals l) (length offsets)
-    ∷ cycleCheck (l .cycle)
-    ∷ redCheck (l .cycle) (l .reds)
-    ∷ distanceCheck (l .distances)
-    ∷ speedCheck (l .outbound) (l .inbound)
-    ∷ offsetCheck (l .cycle) offsets
-    ∷ [])
+    ((counts l ∷ sizeCheck (signals l) (length offsets) ∷ cycleCheck (l .cycle) ∷ [])
+    ++ numberChecks l
+    ++ (offsetCheck (l .cycle) offsets ∷ []))
 
 -- a direction's band: its width, and the smallest start that attains it (01, 'Measuring')
 abbrev pub bandOf : Way → Band

@@ -30,12 +30,12 @@ endOf direction s offsets j = man (halves s) (pos (getD offsets j 0 + s .red j) 
 
 -- inbound times grow along the street, so that none is above signal n's (01, 'Travel time')
 pub record Onward (s : Street) : Type 0 where
-  pub each : (j : ℕ) → j < s .signals → getD (s .inbound) j 0 ≤ getD (s .inbound) (s .signals - 1) 0
+  pub each : (j : ℕ) → j < s .road .signals → getD (s .road .inbound) j 0 ≤ getD (s .road .inbound) (s .road .signals - 1) 0
 
 -- an offset for each signal, each below H (01, 'Red, departure, band')
 pub record Placed (s : Street) (offsets : List ℕ) : Type 0 where
-  pub count : length offsets ≡ s .signals
-  pub each : (j : ℕ) → j < s .signals → getD offsets j 0 < halves (timedStreet s)
+  pub count : length offsets ≡ s .road .signals
+  pub each : (j : ℕ) → j < s .road .signals → getD offsets j 0 < halves (timedStreet s)
 
 -- at each of n signals a red that takes some of a cycle of h halves and not all of it, and an instant on the cycle at which it ends (01, 'Units and the street')
 pub record Fitting (h n : ℕ) (red : ℕ → ℕ) (ends : List ℕ) : Type 0 where

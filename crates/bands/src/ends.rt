@@ -4,13 +4,14 @@ use crate::Direction;
 use street::Street;
 ghost use mathlib.Core.Path.{_≡_};
 ghost use Prim.Native.Nat.{_≤_};
+ghost use Rattle.street.specs.Limits.{maxTime};
 ghost use Rattle.street.specs.Streets.{padded, timedStreet, Sound};
 ghost use Rattle.bands.specs.Search.{lagBy, endOf, Onward, Placed};
 
 // How long after its departure a car is at a signal, in halves. Outbound it departs at signal 1, inbound at signal n, whose inbound
 // time is `last`.
 fn lag(direction: Direction, out: u32, back: u32, last: u32) -> u32
-    requires { ⌜ (out ≤ 6200031) × (back ≤ last) × (last ≤ 6200031) ⌝ }
+    requires { ⌜ (out ≤ maxTime) × (back ≤ last) × (last ≤ maxTime) ⌝ }
     ensures { λ r. ⌜ r ≡ lagBy direction out back last ⌝ }
 {
     match direction {
@@ -20,17 +21,18 @@ fn lag(direction: Direction, out: u32, back: u32, last: u32) -> u32
 }
 
 // Every signal's red end.
-pub fn ends(s: Street, offsets: &[u32], direction: Direction) -> [u32; 32]
+pub fn ends(s: Street, offsets: &[u32], direction: Direction) -> [u32; Street::MAX_SIGNALS]
     requires { ⌜ Sound s × Onward s × Placed s (now offsets) ⌝ }
-    ensures { λ r. ⌜ r ≡ padded (s .signals) (endOf direction (timedStreet s) (now (offsets .entry))) ⌝ }
+    ensures { λ r. ⌜ r ≡ padded (s .road .signals) (endOf direction (timedStreet s) (now (offsets .entry))) ⌝ }
 {
-    let n = s.signals;
+    let road = s.road;
+    let n = road.signals;
     let h = 2 * s.cycle;
-    let last = s.inbound[n - 1];
-    let mut all = [0u32; 32];
+    let last = road.inbound[n - 1];
+    let mut all = [0u32; Street::MAX_SIGNALS];
     let mut j: usize = 0;
     while j < n {
-        let after = lag(direction, s.outbound[j], s.inbound[j], last);
+        let after = lag(direction, road.outbound[j], road.inbound[j], last);
         all[j] = circle::remainder(h, offsets[j] + s.reds[j], after);
         j += 1;
     }

@@ -6,10 +6,11 @@ use street::Code;
 use street::Refusal;
 use street::Street;
 use street::Verdict;
+use street::refused;
 ghost use mathlib.Core.Path.{_≡_};
 ghost use Prim.Native.Nat.{_≤_};
 ghost use lib.ListN.{length};
-ghost use Rattle.street.specs.Limits.{maxSignals};
+ghost use Rattle.street.specs.Limits.{maxSignals, maxCycle};
 ghost use Rattle.street.specs.Lists.{typed};
 ghost use Rattle.street.specs.Streets.{timedStreet, Sound};
 ghost use Rattle.bands.specs.Search.{Onward, Placed};
@@ -42,17 +43,14 @@ enum Direction {
 
 // The check of the offsets: a fault where one is not below H.
 fn offset(cycle: u32, offsets: &[u32]) -> Verdict
-    requires { ⌜ (cycle ≤ 6000) × (length (now offsets) ≤ maxSignals) ⌝ }
+    requires { ⌜ (cycle ≤ maxCycle) × (length (now offsets) ≤ maxSignals) ⌝ }
     ensures { λ r. ⌜ r ≡ offsetCheck cycle (now (offsets .entry)) ⌝ }
 {
     let h = 2 * cycle;
     let mut j: usize = 0;
     while j < offsets.len() {
         if h <= offsets[j] {
-            return Verdict::Refused(Refusal {
-                code: Code::Offset,
-                place: (j + 1) as u32,
-            });
+            return refused(Code::Offset, (j + 1) as u32);
         }
         j += 1;
     }
@@ -64,7 +62,7 @@ fn bands(s: Street, offsets: &[u32]) -> Measured
     requires { ⌜ Sound s × Onward s × Placed s (now offsets) ⌝ }
     ensures { λ r. ⌜ r ≡ measuredOf (timedStreet s) (now (offsets .entry)) ⌝ }
 {
-    let n = s.signals;
+    let n = s.road.signals;
     let h = 2 * s.cycle;
     let reds = s.reds;
     let out_ends = ends::ends(s, offsets, Direction::Outbound);
@@ -79,7 +77,7 @@ fn bands(s: Street, offsets: &[u32]) -> Measured
 
 // The measure on a street whose own checks have passed.
 fn on_street(s: Street, offsets: &[u32]) -> Measurement
-    requires { ⌜ Sound s × Onward s × (length (now offsets) ≡ s .signals) ⌝ }
+    requires { ⌜ Sound s × Onward s × (length (now offsets) ≡ s .road .signals) ⌝ }
     ensures { λ r. ⌜ r ≡ foundOr (offsetCheck (s .cycle) (now (offsets .entry))) (measuredOf (timedStreet s) (now (offsets .entry))) ⌝ }
 {
     let verdict = offset(s.cycle, offsets);

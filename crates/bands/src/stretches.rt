@@ -1,16 +1,17 @@
 // The longest stretch there is, from the red ends as they are seen where a direction departs. Only red ends need be tried as starts:
 // each is held against every signal, by comparisons and differences alone.
 use crate::Band;
+use street::Street;
 ghost use mathlib.Core.Path.{_≡_};
 ghost use Prim.Native.Nat.{_≤_, _<_};
 ghost use lib.ListN.{getD};
-ghost use Rattle.street.specs.Limits.{maxSignals};
+ghost use Rattle.street.specs.Limits.{maxSignals, maxCycle, maxHalves};
 ghost use Rattle.bands.specs.Search.{seenBy, Fitting, longestFrom, leftBy, widerOf};
 ghost use Rattle.bands.specs.Measure.{bandOf};
 
 // What a red leaves of the cycle for a stretch from x on.
 fn left(h: u32, x: u32, end: u32, red: u32) -> u32
-    requires { ⌜ (h ≤ 12000) × (x < h) × (end < h) × (red ≤ 6000) ⌝ }
+    requires { ⌜ (h ≤ maxHalves) × (x < h) × (end < h) × (red ≤ maxCycle) ⌝ }
     ensures { λ r. ⌜ r ≡ leftBy h x end red ⌝ }
 {
     let gone = 2 * red + circle::back(h, x, end);
@@ -21,8 +22,14 @@ fn left(h: u32, x: u32, end: u32, red: u32) -> u32
 }
 
 // The longest stretch from x: the least that any red leaves. The arrays are lent, since one call for each start would copy them.
-fn longest(h: u32, n: usize, reds: &[u32; 32], ends: &[u32; 32], x: u32) -> u32
-    requires { ⌜ (h ≤ 12000) × (n ≤ maxSignals) × Fitting h n (λ j. getD (now reds) j 0) (now ends) × (x < h) ⌝ }
+fn longest(
+    h: u32,
+    n: usize,
+    reds: &[u32; Street::MAX_SIGNALS],
+    ends: &[u32; Street::MAX_SIGNALS],
+    x: u32,
+) -> u32
+    requires { ⌜ (h ≤ maxHalves) × (n ≤ maxSignals) × Fitting h n (λ j. getD (now reds) j 0) (now ends) × (x < h) ⌝ }
     ensures { λ r. ⌜ r ≡ longestFrom (seenBy h n (λ j. getD (now (reds .entry)) j 0) (now (ends .entry))) x ⌝ }
 {
     let mut least = h;
@@ -54,8 +61,13 @@ fn wider(best: Band, other: Band) -> Band
 }
 
 // The band: the widest of the stretches from the red ends, the smallest start among equals.
-pub fn band(h: u32, n: usize, reds: &[u32; 32], ends: &[u32; 32]) -> Band
-    requires { ⌜ (h ≤ 12000) × (1 ≤ n) × (n ≤ maxSignals) × Fitting h n (λ j. getD (now reds) j 0) (now ends) ⌝ }
+pub fn band(
+    h: u32,
+    n: usize,
+    reds: &[u32; Street::MAX_SIGNALS],
+    ends: &[u32; Street::MAX_SIGNALS],
+) -> Band
+    requires { ⌜ (h ≤ maxHalves) × (1 ≤ n) × (n ≤ maxSignals) × Fitting h n (λ j. getD (now reds) j 0) (now ends) ⌝ }
     ensures { λ r. ⌜ r ≡ bandOf (seenBy h n (λ j. getD (now (reds .entry)) j 0) (now (ends .entry))) ⌝ }
 {
     let mut best = Band { width: 0, start: 0 };

@@ -1,9 +1,9 @@
 -- What is known of a street's numbers once every check of a plan has passed, in the words of plain numbers. Each check that passed tested true, or searched for
 -- a fault and found none. Assumes nothing.
 use Prim.Native.Nat.{ℕ, _+_, _-_, _≤_, _<_}
-use mathlib.Core.Path.{_≡_, refl, sym, ap₂, _∙_}
+use mathlib.Core.Path.{_≡_, refl, sym, ap, ap₂, _∙_}
 use mathlib.Core.Bool.{Bool, true, false, cond, not}
-use mathlib.Core.List.{List}
+use mathlib.Core.List.{List, [], _∷_, _++_}
 use native.Mathlib.Omega.{arith}
 use lib.ListN.{length, getD}
 use lib.Dec.{leb, ltb}
@@ -12,10 +12,11 @@ use Rattle.circle.specs.Over.{Found, nowhere, at, firstBelow}
 use Rattle.circle.proofs.Over.{first-none}
 use Rattle.street.specs.Limits.{maxSignals, minCycle, maxCycle, minRed, maxDistance, minSpeed, maxSpeed}
 use Rattle.street.specs.Lists.{Lists, signals}
-use Rattle.street.specs.Checks.{within, faultAt, orNext, _or_, badRed, badDistance, badSpeed, countCheck, roomCheck, cycleCheck, redCheck, distanceCheck, speedCheck, planChecks}
+use Rattle.street.specs.Checks.{within, faultAt, orNext, firstFault, _or_, badRed, badDistance, badSpeed, countCheck, roomCheck, cycleCheck, redCheck, distanceCheck, speedCheck, counts, openingChecks, numberChecks, planChecks}
 use Rattle.street.specs.Times.{Driveable}
 use Rattle.street.specs.declared.Code.{Code}
 use Rattle.street.specs.declared.Code.the-variants.{Room, Red, Distance, Speed}
+use Rattle.street.specs.declared.Refusal.{Refusal}
 use Rattle.street.specs.declared.Verdict.{Verdict}
 use Rattle.street.specs.declared.Verdict.the-variants.{Passed, Refused}
 use Rattle.street.proofs.CheckLaws.{passes, Within, within-range, Counted, counted, cycle-range}
@@ -28,6 +29,31 @@ first-passed (Refused f) w e = e
 pub rest-passed : (v w : Verdict) → orNext v w ≡ Passed → w ≡ Passed
 rest-passed Passed w e = e
 rest-passed (Refused f) w e = let z : _≡_ {A = ℕ} 0 1 = cc in absurd (omega arith)
+
+-- the first fault of two lists of checks, one after the other, is the first list's, or else the second's
+pub first-of-both : (xs ys : List Verdict) → orNext (firstFault xs) (firstFault ys) ≡ firstFault (xs ++ ys)
+first-of-both [] ys = refl
+first-of-both (Passed ∷ xs) ys = first-of-both xs ys
+first-of-both (Refused f ∷ xs) ys = refl
+
+-- so a plan's fault is the opening's verdict, or else the numbers', whose checks require what the opening tells
+module _ (l : Lists) (room : ℕ) (first : Verdict) (is : first ≡ firstFault (openingChecks l room)) where
+  then : (v : Verdict) → first ≡ v → orNext v (firstFault (numberChecks l)) ≡ planChecks l room
+  unfolding planChecks
+  then v e =
+      ap (λ w. orNext w (firstFault (numberChecks l))) (sym e ∙ is) ∙ first-of-both (openingChecks l room) (numberChecks l)
+
+  pub plan-refused : (f : Refusal) → first ≡ Refused f → Refused f ≡ planChecks l room
+  plan-refused f e = then (Refused f) e
+
+  pub plan-numbers : first ≡ Passed → (v : Verdict) → v ≡ firstFault (numberChecks l) → v ≡ planChecks l room
+  plan-numbers e v same = same ∙ then Passed e
+
+  pub opened : first ≡ Passed → (1 ≤ l .cycle) × (counts l ≡ Passed)
+  opened e =
+      let all = sym is ∙ e in
+      let timed = rest-passed (roomCheck (signals l) room) _ (rest-passed (counts l) _ all) in
+      (omega (arith, cycle-range (l .cycle) (first-passed (cycleCheck (l .cycle)) Passed timed) .low), first-passed (counts l) _ all)
 
 -- a search that found no fault
 pub no-fault : (code : Code) (f : Found) → faultAt code f ≡ Passed → f ≡ nowhere

@@ -1,51 +1,32 @@
--- A street whose checks passed is sound: what the search builds on, read off its padded arrays, and it is the method's street of the typed lists at every signal.
--- A direction's time to a signal is at most 200,001 ticks for each link before it. Assumes nothing.
-use Prim.Native.Nat.{ℕ, zero, suc, _-_, _*_, _≤_, _<_}
+-- A street whose checks passed is sound: what the search builds on, read off its padded arrays, and it is the method's street of the typed lists at every signal. Assumes nothing.
+use Prim.Native.Nat.{ℕ, _-_, _<_}
 use mathlib.Core.Path.{_≡_, refl, sym, ap, _∙_, subst}
-use mathlib.Core.Bool.{Bool}
-use mathlib.Core.List.{List}
 use native.Mathlib.Omega.{arith}
-use lib.ListN.{length, drop, getD, replicate}
-use Rattle.circle.specs.Over.{sumBelow, countBelow}
+use lib.ListN.{drop, getD, replicate}
 use Rattle.circle.proofs.Over.{getD-listBelow}
 use Rattle.circle.proofs.Method.{Agree}
 use Rattle.street.specs.Limits.{maxSignals}
 use Rattle.street.specs.Lists.{Lists, signals}
 use Rattle.street.specs.Checks.{planChecks}
-use Rattle.street.specs.Times.{timeTo, roundedLink, timed, Driveable}
-use Rattle.street.specs.Streets.{padded, streetOf, surveyed, surveyedAs, timedStreet, Sound}
+use Rattle.street.specs.Times.{roundedLink, timed}
+use Rattle.street.specs.Streets.{padded, streetOf, surveyed, surveyedAs, timedStreet, Paved, Sound}
 use Rattle.street.specs.declared.Street.{Street}
 use Rattle.street.specs.declared.Surveyed.{Surveyed}
 use Rattle.street.specs.declared.Verdict.{Verdict}
 use Rattle.street.specs.declared.Verdict.the-variants.{Passed, Refused}
-use Rattle.street.proofs.TimeLaws.{time-small, mark-small}
+use Rattle.street.proofs.TimeLaws.{time-far, count-small}
 use Rattle.street.proofs.Passed.{clear}
-
-pub time-far : (ds vs : List ℕ) → Driveable ds vs → (j : ℕ) → j ≤ length vs → timeTo ds vs j ≤ 200001 * j
-unfolding sumBelow
-time-far ds vs ok zero l = omega arith
-time-far ds vs ok (suc j) l =
-    omega (arith, time-far ds vs ok j (omega arith), time-small ds vs ok j (omega arith))
-
-count-small : (n : ℕ) (test : ℕ → Bool) → countBelow n test ≤ n
-unfolding sumBelow
-count-small zero test = omega arith
-count-small (suc n) test = omega (arith, count-small n test, mark-small (test n))
 
 getD-padded : (n : ℕ) (f : ℕ → ℕ) (k : ℕ) → k < n → getD (padded n f) k 0 ≡ f k
 getD-padded n f k l = getD-listBelow n f (drop n (replicate maxSignals 0)) k 0 l
 
 module _ (l : Lists) (room : ℕ) (passed : planChecks l room ≡ Passed) where
-  pub sound : Sound (streetOf l)
-  sound =
+  paved : Paved (streetOf l .road)
+  paved =
       let ok = clear l room passed in
       record {
         some = ok .counts .least;
         few = ok .counts .most;
-        shortest = ok .cycle .low;
-        longest = ok .cycle .high;
-        stops = λ k h. omega (arith, getD-padded (signals l) (timed l .red) k h, ok .reds k h .low);
-        goes = λ k h. omega (arith, getD-padded (signals l) (timed l .red) k h, ok .reds k h .high, ok .cycle .low);
         out =
             λ k h.
             let at-k = getD-padded (signals l) (timed l .outbound) k h in
@@ -57,6 +38,17 @@ module _ (l : Lists) (room : ℕ) (passed : planChecks l room ≡ Passed) where
             let far = time-far (l .distances) (l .inbound) (ok .inbound) k (omega arith) in
             omega arith;
         links = omega (arith, count-small (signals l - 1) (roundedLink (l .distances) (l .outbound) (l .inbound)));
+      }
+
+  pub sound : Sound (streetOf l)
+  sound =
+      let ok = clear l room passed in
+      record {
+        road = paved;
+        shortest = ok .cycle .low;
+        longest = ok .cycle .high;
+        stops = λ k h. omega (arith, getD-padded (signals l) (timed l .red) k h, ok .reds k h .low);
+        goes = λ k h. omega (arith, getD-padded (signals l) (timed l .red) k h, ok .reds k h .high, ok .cycle .low);
       }
 
   pub street-agrees : Agree (timedStreet (streetOf l)) (timed l)

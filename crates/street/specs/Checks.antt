@@ -1,7 +1,7 @@
 -- Each check of a street, and the refusal of a list of checks: its first fault (01, 'Codes, in order of checking').
 use Prim.Native.Nat.{ℕ, _+_, _-_}
 use mathlib.Core.Bool.{Bool, true, false, cond, not}
-use mathlib.Core.List.{List, [], _∷_}
+use mathlib.Core.List.{List, [], _∷_, _++_}
 use lib.ListN.{length, getD}
 use lib.Dec.{leb, ltb, eqb}
 use Rattle.circle.specs.Over.{Found, nowhere, at, firstBelow}
@@ -90,14 +90,18 @@ badSpeed outbound inbound k =
 unfoldable pub speedCheck : List ℕ → List ℕ → Verdict
 speedCheck outbound inbound = faultAt Speed (firstBelow (length outbound) (badSpeed outbound inbound))
 
--- the checks of a plan over a lent list of some room, in their order: all reds are judged before any distance
+-- the checks that every call makes first, by the lists' lengths: is there a street at all?
+abbrev pub counts : Lists → Verdict
+counts l = countCheck (signals l) (length (l .distances)) (length (l .outbound)) (length (l .inbound))
+
+-- a call's order is a list of checks. A call that lends a list opens with these
+abbrev pub openingChecks : Lists → ℕ → List Verdict
+openingChecks l room = counts l ∷ roomCheck (signals l) room ∷ cycleCheck (l .cycle) ∷ []
+
+-- and every call judges the numbers so: all reds before any distance
+abbrev pub numberChecks : Lists → List Verdict
+numberChecks l = redCheck (l .cycle) (l .reds) ∷ distanceCheck (l .distances) ∷ speedCheck (l .outbound) (l .inbound) ∷ []
+
+-- the checks of a plan over a lent list of some room, in their order
 unfoldable pub planChecks : Lists → ℕ → Verdict
-planChecks l room =
-    firstFault
-    (countCheck (signals l) (length (l .distances)) (length (l .outbound)) (length (l .inbound))
-    ∷ roomCheck (signals l) room
-    ∷ cycleCheck (l .cycle)
-    ∷ redCheck (l .cycle) (l .reds)
-    ∷ distanceCheck (l .distances)
-    ∷ speedCheck (l .outbound) (l .inbound)
-    ∷ [])
+planChecks l room = firstFault (openingChecks l room ++ numberChecks l)

@@ -34,9 +34,13 @@ minSpeed = 1000
 abbrev pub maxSpeed : ℕ
 maxSpeed = 40000
 
--- a travel time from end to end, in ticks, and a bound on it: no link takes longer than all of the distance at the least speed, rounded up
+-- bounds on travel times, in ticks: no link takes longer than the whole distance at the least speed, and one tick for its rounding; and no way along the street longer than
+-- that on every link
+abbrev pub maxLinkTime : ℕ
+maxLinkTime = 10 * maxDistance / minSpeed + 1
+
 abbrev pub maxTime : ℕ
-maxTime = (maxSignals - 1) * (10 * maxDistance / minSpeed + 1)
+maxTime = (maxSignals - 1) * maxLinkTime
 
 -- a platoon, in halves; the least is 0
 abbrev pub maxPlatoon : ℕ

@@ -1,4 +1,5 @@
-// Each check of a street by itself, in the order of document 01's code table, and the first fault of a plan's checks.
+// Each check of a street by itself, in the order of document 01's code table; those with which a call opens, those of a street's
+// numbers, and the first fault of a plan's checks, which are both.
 use crate::Code;
 use crate::Street;
 use crate::Verdict;
@@ -9,10 +10,10 @@ ghost use mathlib.Core.Bool.{not};
 ghost use lib.ListN.{length};
 ghost use Rattle.street.specs.Limits.{maxSignals, minSpeed, maxSpeed};
 ghost use Rattle.street.specs.Lists.{typed};
-ghost use Rattle.street.specs.Checks.{within, _or_, badDistance, countCheck, roomCheck, cycleCheck, redCheck, distanceCheck, speedCheck, planChecks};
+ghost use Rattle.street.specs.Checks.{firstFault, within, _or_, badDistance, countCheck, roomCheck, cycleCheck, redCheck, distanceCheck, speedCheck, counts, openingChecks, numberChecks, planChecks};
 
 // The lists' lengths are judged before the number of links is formed, so no count of 0 loses 1.
-fn count(signals: usize, distances: usize, outbound: usize, inbound: usize) -> Verdict
+pub fn count(signals: usize, distances: usize, outbound: usize, inbound: usize) -> Verdict
     ensures { λ r. ⌜ r ≡ countCheck signals distances outbound inbound ⌝ }
 {
     if signals < Street::MIN_SIGNALS {
@@ -34,7 +35,7 @@ fn count(signals: usize, distances: usize, outbound: usize, inbound: usize) -> V
     Verdict::Passed
 }
 
-fn room(signals: usize, lent: usize) -> Verdict
+pub fn room(signals: usize, lent: usize) -> Verdict
     ensures { λ r. ⌜ r ≡ roomCheck signals lent ⌝ }
 {
     if lent < signals {
@@ -43,7 +44,7 @@ fn room(signals: usize, lent: usize) -> Verdict
     Verdict::Passed
 }
 
-fn cycle(ticks: u32) -> Verdict
+pub fn cycle(ticks: u32) -> Verdict
     ensures { λ r. ⌜ r ≡ cycleCheck ticks ⌝ }
 {
     if ticks < Street::MIN_CYCLE {
@@ -65,7 +66,7 @@ fn outside(low: u32, high: u32, x: u32) -> bool
     high < x
 }
 
-fn red(ticks: u32, reds: &[u32]) -> Verdict
+pub fn red(ticks: u32, reds: &[u32]) -> Verdict
     requires { ⌜ (1 ≤ ticks) × (length (now reds) ≤ maxSignals) ⌝ }
     ensures { λ r. ⌜ r ≡ redCheck ticks (now (reds .entry)) ⌝ }
 {
@@ -94,7 +95,7 @@ fn misplaced(distances: &[u32], i: usize) -> bool
     x <= distances[before]
 }
 
-fn distance(distances: &[u32]) -> Verdict
+pub fn distance(distances: &[u32]) -> Verdict
     requires { ⌜ length (now distances) ≤ maxSignals ⌝ }
     ensures { λ r. ⌜ r ≡ distanceCheck (now (distances .entry)) ⌝ }
 {
@@ -117,7 +118,7 @@ fn off_speed(outbound: u32, inbound: u32) -> bool
     outside(Street::MIN_SPEED, Street::MAX_SPEED, inbound)
 }
 
-fn speed(outbound: &[u32], inbound: &[u32]) -> Verdict
+pub fn speed(outbound: &[u32], inbound: &[u32]) -> Verdict
     requires { ⌜ (length (now outbound) ≤ maxSignals) × (length (now inbound) ≡ length (now outbound)) ⌝ }
     ensures { λ r. ⌜ r ≡ speedCheck (now (outbound .entry)) (now (inbound .entry)) ⌝ }
 {
@@ -131,6 +132,50 @@ fn speed(outbound: &[u32], inbound: &[u32]) -> Verdict
     Verdict::Passed
 }
 
+// The checks with which a call that lends a list opens: counts, room and cycle.
+pub fn opening(
+    ticks: u32,
+    reds: &[u32],
+    distances: &[u32],
+    outbound: &[u32],
+    inbound: &[u32],
+    lent: usize,
+) -> Verdict
+    ensures { λ r. ⌜ r ≡ firstFault (openingChecks (typed ticks (now (reds .entry)) (now (distances .entry)) (now (outbound .entry)) (now (inbound .entry))) lent) ⌝ }
+{
+    let counted = count(reds.len(), distances.len(), outbound.len(), inbound.len());
+    if let Verdict::Refused(f) = counted {
+        return Verdict::Refused(f);
+    }
+    let roomy = room(reds.len(), lent);
+    if let Verdict::Refused(f) = roomy {
+        return Verdict::Refused(f);
+    }
+    cycle(ticks)
+}
+
+// The numbers of a street whose counts and cycle have passed: reds, distances and speeds.
+pub fn numbers(
+    ticks: u32,
+    reds: &[u32],
+    distances: &[u32],
+    outbound: &[u32],
+    inbound: &[u32],
+) -> Verdict
+    requires { ⌜ (1 ≤ ticks) × (counts (typed ticks (now reds) (now distances) (now outbound) (now inbound)) ≡ Verdict.Passed) ⌝ }
+    ensures { λ r. ⌜ r ≡ firstFault (numberChecks (typed ticks (now (reds .entry)) (now (distances .entry)) (now (outbound .entry)) (now (inbound .entry)))) ⌝ }
+{
+    let stopped = red(ticks, reds);
+    if let Verdict::Refused(f) = stopped {
+        return Verdict::Refused(f);
+    }
+    let placed = distance(distances);
+    if let Verdict::Refused(f) = placed {
+        return Verdict::Refused(f);
+    }
+    speed(outbound, inbound)
+}
+
 // The first fault of a plan's checks, in their order.
 pub fn judged(
     ticks: u32,
@@ -142,25 +187,9 @@ pub fn judged(
 ) -> Verdict
     ensures { λ r. ⌜ r ≡ planChecks (typed ticks (now (reds .entry)) (now (distances .entry)) (now (outbound .entry)) (now (inbound .entry))) lent ⌝ }
 {
-    let counted = count(reds.len(), distances.len(), outbound.len(), inbound.len());
-    if let Verdict::Refused(f) = counted {
+    let opened = opening(ticks, reds, distances, outbound, inbound, lent);
+    if let Verdict::Refused(f) = opened {
         return Verdict::Refused(f);
     }
-    let roomy = room(reds.len(), lent);
-    if let Verdict::Refused(f) = roomy {
-        return Verdict::Refused(f);
-    }
-    let timed = cycle(ticks);
-    if let Verdict::Refused(f) = timed {
-        return Verdict::Refused(f);
-    }
-    let stopped = red(ticks, reds);
-    if let Verdict::Refused(f) = stopped {
-        return Verdict::Refused(f);
-    }
-    let placed = distance(distances);
-    if let Verdict::Refused(f) = placed {
-        return Verdict::Refused(f);
-    }
-    speed(outbound, inbound)
+    numbers(ticks, reds, distances, outbound, inbound)
 }

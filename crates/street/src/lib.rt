@@ -1,14 +1,16 @@
 // The street: its limits, its refusal codes, each check, travel times and how many links were rounded (01, 'Units and the
 // street' and 'Codes, in order of checking').
-mod checks;
+pub mod checks;
 mod times;
 
 ghost use mathlib.Core.Path.{_≡_};
+ghost use lib.ListN.{length};
 ghost use Rattle.street.specs.Limits.{minSignals, maxSignals, minCycle, maxCycle, minRed, maxDistance, minSpeed, maxSpeed, maxPlatoon};
 ghost use Rattle.street.specs.Lists.{typed};
 ghost use Rattle.street.specs.Codes.{codeNumber};
 ghost use Rattle.street.specs.Checks.{refuse, planChecks};
-ghost use Rattle.street.specs.Streets.{surveyed, streetOf, noStreet};
+ghost use Rattle.street.specs.Times.{Driveable};
+ghost use Rattle.street.specs.Streets.{roadOf, surveyed, streetOf, noStreet};
 
 // The refusals of document 01, in the order of its table; `code_number` answers the number of each.
 pub enum Code {
@@ -61,22 +63,57 @@ pub fn refused(code: Code, place: u32) -> Verdict
     Verdict::Refused(Refusal { code, place })
 }
 
-// A street whose checks have all passed, as the search needs it: how many signals, the cycle in ticks, each signal's red in
-// ticks, for each signal the outbound ticks from signal 1 to it and the inbound ticks from it to signal 1, and the number of
-// links with a rounded time. Entries from `signals` on are 0.
-pub struct Street {
+// A road, which no cycle enters: how many signals, for each the outbound ticks from signal 1 to it and the inbound ticks from it to
+// signal 1, and the number of links with a rounded time. Entries from `signals` on are 0.
+pub struct Road {
     pub signals: usize,
-    pub cycle: u32,
-    pub reds: [u32; 32],
-    pub outbound: [u32; 32],
-    pub inbound: [u32; 32],
+    pub outbound: [u32; Street::MAX_SIGNALS],
+    pub inbound: [u32; Street::MAX_SIGNALS],
     pub rounded: u32,
+}
+
+// A street whose checks have all passed, as the search needs it: a road, the cycle in ticks, and each signal's red in ticks.
+pub struct Street {
+    pub road: Road,
+    pub cycle: u32,
+    pub reds: [u32; Street::MAX_SIGNALS],
 }
 
 // What the constructor answers: the verdict, and the street beside it, all 0 where the verdict is a refusal.
 pub struct Surveyed {
     pub verdict: Verdict,
     pub street: Street,
+}
+
+impl Road {
+    // The road of distances and speeds that passed their checks. Each link's two times are worked out once, and m is counted from
+    // the same answers.
+    pub fn new(distances: &[u32], outbound: &[u32], inbound: &[u32]) -> Road
+        requires { ⌜ Driveable (now distances) (now outbound) × Driveable (now distances) (now inbound) ⌝ }
+        ensures { λ r. ⌜ r ≡ roadOf (length (now (distances .entry))) (now (distances .entry)) (now (outbound .entry)) (now (inbound .entry)) ⌝ }
+    {
+        let mut out = [0u32; Street::MAX_SIGNALS];
+        let mut back = [0u32; Street::MAX_SIGNALS];
+        let mut there: u32 = 0;
+        let mut home: u32 = 0;
+        let mut rounded: u32 = 0;
+        let mut k: usize = 0;
+        while k < outbound.len() {
+            let link = times::link_times(distances, outbound, inbound, k);
+            there += link.outbound;
+            home += link.inbound;
+            rounded += link.rounded;
+            k += 1;
+            out[k] = there;
+            back[k] = home;
+        }
+        Road {
+            signals: distances.len(),
+            outbound: out,
+            inbound: back,
+            rounded,
+        }
+    }
 }
 
 impl Street {
@@ -104,12 +141,14 @@ impl Street {
         ensures { λ r. ⌜ r ≡ noStreet ⌝ }
     {
         Street {
-            signals: 0,
+            road: Road {
+                signals: 0,
+                outbound: [0u32; Street::MAX_SIGNALS],
+                inbound: [0u32; Street::MAX_SIGNALS],
+                rounded: 0,
+            },
             cycle: 0,
-            reds: [0u32; 32],
-            outbound: [0u32; 32],
-            inbound: [0u32; 32],
-            rounded: 0,
+            reds: [0u32; Street::MAX_SIGNALS],
         }
     }
 
@@ -126,12 +165,9 @@ impl Street {
         ensures { λ r. ⌜ r ≡ streetOf (typed cycle (now (reds .entry)) (now (distances .entry)) (now (outbound .entry)) (now (inbound .entry))) ⌝ }
     {
         Street {
-            signals: reds.len(),
+            road: Road::new(distances, outbound, inbound),
             cycle,
             reds: times::copied(reds),
-            outbound: times::sums(distances, outbound),
-            inbound: times::sums(distances, inbound),
-            rounded: times::rounded_links(distances, outbound, inbound),
         }
     }
 

@@ -1,18 +1,25 @@
 // Travel times in ticks, each link and direction rounded by itself, and how many links were rounded (01, 'Travel time').
+use crate::Street;
 ghost use mathlib.Core.Path.{_≡_};
 ghost use mathlib.Core.Bool.{not, cond};
 ghost use Prim.Native.Nat.{_+_, _-_, _≤_, _<_};
 ghost use lib.ListN.{length, getD};
-ghost use Rattle.circle.specs.Over.{countBelow};
 ghost use Rattle.street.specs.Limits.{maxSignals, maxDistance, minSpeed, maxSpeed};
 ghost use Rattle.street.specs.Checks.{_or_};
-ghost use Rattle.street.specs.Times.{ticks, whole, linkLength, timeTo, roundedLink, Driveable};
+ghost use Rattle.street.specs.Times.{ticks, whole, linkLength, linkTicks, roundedLink, Driveable};
 ghost use Rattle.street.specs.Streets.{padded};
 
 // A link's time in one direction: the rounded ticks, and whether the exact time was whole already.
 struct LinkTime {
     ticks: u32,
     whole: bool,
+}
+
+// A link: its ticks in each direction, and 1 where either was rounded, else 0.
+pub struct Link {
+    pub outbound: u32,
+    pub inbound: u32,
+    pub rounded: u32,
 }
 
 fn link_time(length: u32, speed: u32) -> LinkTime
@@ -33,59 +40,42 @@ fn link_length(distances: &[u32], k: usize) -> u32
     distances[next] - distances[k]
 }
 
-// One direction's ticks from signal 1 to each signal, or back from it.
-pub fn sums(distances: &[u32], speeds: &[u32]) -> [u32; 32]
-    requires { ⌜ Driveable (now distances) (now speeds) ⌝ }
-    ensures { λ r. ⌜ r ≡ padded (length (now (speeds .entry)) + 1) (timeTo (now (distances .entry)) (now (speeds .entry))) ⌝ }
+// 1 where a link's time was rounded in either direction, else 0.
+fn mark(outbound_whole: bool, inbound_whole: bool) -> u32
+    ensures { λ r. ⌜ r ≡ cond (not «outbound_whole» or not «inbound_whole») 1 0 ⌝ }
 {
-    let mut all = [0u32; 32];
-    let mut sum: u32 = 0;
-    let mut k: usize = 0;
-    while k < speeds.len() {
-        let time = link_time(link_length(distances, k), speeds[k]);
-        sum += time.ticks;
-        k += 1;
-        all[k] = sum;
-    }
-    all
-}
-
-// 1 for a link with a rounded time in either direction, else 0.
-fn rounded(length: u32, outbound: u32, inbound: u32) -> u32
-    requires { ⌜ (length ≤ maxDistance) × (minSpeed ≤ outbound) × (outbound ≤ maxSpeed) × (minSpeed ≤ inbound) × (inbound ≤ maxSpeed) ⌝ }
-    ensures { λ r. ⌜ r ≡ cond (not (whole length outbound) or not (whole length inbound)) 1 0 ⌝ }
-{
-    let out = link_time(length, outbound);
-    if !out.whole {
+    if !outbound_whole {
         return 1;
     }
-    let back = link_time(length, inbound);
-    if !back.whole {
+    if !inbound_whole {
         return 1;
     }
     0
 }
 
-// m: how many links were rounded.
-pub fn rounded_links(distances: &[u32], outbound: &[u32], inbound: &[u32]) -> u32
-    requires { ⌜ Driveable (now distances) (now outbound) × Driveable (now distances) (now inbound) ⌝ }
-    ensures { λ r. ⌜ r ≡ countBelow (length (now (outbound .entry))) (roundedLink (now (distances .entry)) (now (outbound .entry)) (now (inbound .entry))) ⌝ }
+// Link k: its time in each direction, and whether either was rounded.
+pub fn link_times(distances: &[u32], outbound: &[u32], inbound: &[u32], k: usize) -> Link
+    requires { ⌜ Driveable (now distances) (now outbound) × Driveable (now distances) (now inbound) × (k < length (now outbound)) ⌝ }
+    ensures outbound { λ r. ⌜ r .outbound ≡ linkTicks (now (distances .entry)) (now (outbound .entry)) k ⌝ }
+    ensures inbound { λ r. ⌜ r .inbound ≡ linkTicks (now (distances .entry)) (now (inbound .entry)) k ⌝ }
+    ensures rounded { λ r. ⌜ r .rounded ≡ cond (roundedLink (now (distances .entry)) (now (outbound .entry)) (now (inbound .entry)) k) 1 0 ⌝ }
 {
-    let mut count: u32 = 0;
-    let mut k: usize = 0;
-    while k < outbound.len() {
-        count += rounded(link_length(distances, k), outbound[k], inbound[k]);
-        k += 1;
+    let long = link_length(distances, k);
+    let there = link_time(long, outbound[k]);
+    let home = link_time(long, inbound[k]);
+    Link {
+        outbound: there.ticks,
+        inbound: home.ticks,
+        rounded: mark(there.whole, home.whole),
     }
-    count
 }
 
-// A list as the 32 entries of a street.
-pub fn copied(list: &[u32]) -> [u32; 32]
+// A list as the entries of a street.
+pub fn copied(list: &[u32]) -> [u32; Street::MAX_SIGNALS]
     requires { ⌜ length (now list) ≤ maxSignals ⌝ }
     ensures { λ r. ⌜ r ≡ padded (length (now (list .entry))) (λ j. getD (now (list .entry)) j 0) ⌝ }
 {
-    let mut all = [0u32; 32];
+    let mut all = [0u32; Street::MAX_SIGNALS];
     let mut i: usize = 0;
     while i < list.len() {
         all[i] = list[i];

@@ -18,7 +18,7 @@ band-requires c κs =
     let c0 = c .before .before .before .before .before .before in
     let made = c .before .before .ends in
     let ok = c0 .pre .0 in
-    (omega (arith, ok .longest), ok .some, ok .few, fitting (c0 .args .s) (made .result) ok (ends-on (c0 .args .s) ok Outbound (c0 .args .offsets .now) (made .result) (made .ensures)))
+    (omega (arith, ok .longest), ok .road .some, ok .road .few, fitting (c0 .args .s) (made .result) ok (ends-on (c0 .args .s) ok Outbound (c0 .args .offsets .now) (made .result) (made .ensures)))
 
 ends-requires-2 : tie.Need-ends-requires-2
 ends-requires-2 c κs = search needs
@@ -28,7 +28,7 @@ band-requires-2 c κs =
     let c0 = c .before .before .before .before .before .before .before .before .before .before in
     let made = c .before .before .ends2 in
     let ok = c0 .pre .0 in
-    (omega (arith, ok .longest), ok .some, ok .few, fitting (c0 .args .s) (made .result) ok (ends-on (c0 .args .s) ok Inbound (c0 .args .offsets .now) (made .result) (made .ensures)))
+    (omega (arith, ok .longest), ok .road .some, ok .road .few, fitting (c0 .args .s) (made .result) ok (ends-on (c0 .args .s) ok Inbound (c0 .args .offsets .now) (made .result) (made .ensures)))
 
 returns : tie.Need-returns
 returns c =

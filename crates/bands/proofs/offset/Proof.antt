@@ -2,7 +2,7 @@
 -- there is none. The measure is the number of offsets left. Assumes nothing.
 use Prim.Native.Nat.{ℕ, _-_, _≤_, _<_}
 use mathlib.Core.Bool.{false}
-use mathlib.Core.Path.{_≡_, sym, ap}
+use mathlib.Core.Path.{_≡_, sym, ap, _∙_}
 use native.Mathlib.Omega.{arith}
 use lib.ListN.{length}
 use borrow.Author.Count.{below-none, below-more}
@@ -33,15 +33,21 @@ mul-if1 c = search needs
 shared-slice-read-if1 : tie.Need-shared-slice-read-if1 Inv-loop μ-loop
 shared-slice-read-if1 c = search needs
 
-add-t10 : tie.Need-add-t10 Inv-loop μ-loop
-add-t10 c = search needs
+add-refused : tie.Need-add-refused Inv-loop μ-loop
+add-refused c = search needs
 
-cast-t11 : tie.Need-cast-t11 Inv-loop μ-loop
-cast-t11 c = search needs
+cast-refused : tie.Need-cast-refused Inv-loop μ-loop
+cast-refused c = search needs
+
+refused-requires : tie.Need-refused-requires Inv-loop μ-loop
+refused-requires c κs = search needs
 
 returns : tie.Need-returns Inv-loop μ-loop
 unfolding offsetCheck
-returns c = sym (ap (faultAt Offset) (first-at _ _ _ (c .before .before .loop-test .taken) (c .before .before .before .loop .inv .1) (le-leb _ _ (c .if1 .taken))))
+returns c =
+    let at = c .before .before .before .before .loop in
+    let here = first-at _ _ _ (c .before .before .before .loop-test .taken) (at .inv .1) (le-leb _ _ (c .before .if1 .taken)) in
+    c .refused .ensures ∙ sym (ap (faultAt Offset) here)
 
 add-j : tie.Need-add-j Inv-loop μ-loop
 add-j c = search needs
@@ -66,8 +72,9 @@ offset-spec =
     loop-holds
     mul-if1
     shared-slice-read-if1
-    add-t10
-    cast-t11
+    add-refused
+    cast-refused
+    refused-requires
     returns
     add-j
     loop-less

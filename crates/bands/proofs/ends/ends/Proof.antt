@@ -11,16 +11,17 @@ use Rattle.circle.specs.Man.{man}
 use Rattle.circle.specs.Method.{halves}
 use Rattle.circle.specs.Over.{listBelow}
 use Rattle.circle.proofs.Over.{fill-store}
+use Rattle.street.specs.Limits.{maxSignals}
 use Rattle.street.specs.Streets.{timedStreet}
 use Rattle.bands.specs.Search.{endOf}
 use Rattle.bands.proofs.ends.ends.Statement.{statement}
 use Rattle.bands.proofs.ends.ends.Tie as tie
 
 abbrev Inv-loop : tie.InvT-loop
-Inv-loop offsets direction s n h last all₀ j₀ all j = (j ≤ s .signals) × (all ≡ listBelow j (endOf direction (timedStreet s) offsets) ++ drop j (replicate 32 0))
+Inv-loop offsets direction s road n h last all₀ j₀ all j = (j ≤ s .road .signals) × (all ≡ listBelow j (endOf direction (timedStreet s) offsets) ++ drop j (replicate maxSignals 0))
 
 abbrev μ-loop : tie.MeasureT-loop
-μ-loop offsets direction s n h last all₀ j₀ all j = s .signals - j
+μ-loop offsets direction s road n h last all₀ j₀ all j = s .road .signals - j
 
 mul-h : tie.Need-mul-h Inv-loop μ-loop
 mul-h c = search needs
@@ -52,9 +53,9 @@ element-copy-out-lag-2 c = search needs
 
 lag-requires : tie.Need-lag-requires Inv-loop μ-loop
 lag-requires c κs =
-    let c0 = c .before .before .before .before .before .before in
+    let c0 = c .before .before .before .before .before .before .before in
     let j = c .before .before .before .loop .j in
-    (c0 .pre .0 .out j (omega arith), c0 .pre .1 .each j (omega arith), c0 .pre .0 .back (c0 .args .t1 .signals - 1) (omega (arith, c0 .pre .0 .some)))
+    (c0 .pre .0 .road .out j (omega arith), c0 .pre .1 .each j (omega arith), c0 .pre .0 .road .back (c0 .args .t1 .road .signals - 1) (omega (arith, c0 .pre .0 .road .some)))
 
 mul-remainder : tie.Need-mul-remainder Inv-loop μ-loop
 mul-remainder c = search needs
@@ -70,13 +71,13 @@ element-copy-out-remainder c = search needs
 
 add-remainder : tie.Need-add-remainder Inv-loop μ-loop
 add-remainder c =
-    let c0 = c .before .before .before .before .before .before .before .before .before in
+    let c0 = c .before .before .before .before .before .before .before .before .before .before in
     let j = c .before .before .before .before .before .before .loop .j in
     omega (arith, c0 .pre .2 .each j (omega arith), c0 .pre .0 .goes j (omega arith), c0 .pre .0 .longest)
 
 remainder-requires : tie.Need-remainder-requires Inv-loop μ-loop
 remainder-requires c κs =
-    let c0 = c .before .before .before .before .before .before .before .before .before in
+    let c0 = c .before .before .before .before .before .before .before .before .before .before in
     let j = c .before .before .before .before .before .before .loop .j in
     omega (arith, c0 .pre .2 .each j (omega arith), c0 .pre .0 .goes j (omega arith), c0 .pre .0 .shortest, c0 .pre .0 .longest)
 
@@ -94,24 +95,24 @@ loop-less c = search needs
 
 loop-again : tie.Need-loop-again Inv-loop μ-loop
 loop-again c =
-    let c0 = c .before .before .before .before .before .before .before .before .before .before in
+    let c0 = c .before .before .before .before .before .before .before .before .before .before .before in
     let s = timedStreet (c0 .args .t1) in
     let offsets = c0 .args .offsets .now in
     let j = c .before .before .before .before .before .before .before .loop .j in
     let value = c .remainder .ensures ∙ ap (λ (k : ℕ). man (halves s) (pos (getD offsets j 0 + s .red j) -ℤ pos k)) (c .before .before .before .lag .ensures) in (
       omega arith,
-      fill-store (replicate 32 0) (c .before .before .before .before .before .before .before .loop .all) (endOf (c0 .args .direction) s offsets) j (c .remainder .result) 0
-          (omega (arith, c0 .pre .0 .few))
+      fill-store (replicate maxSignals 0) (c .before .before .before .before .before .before .before .loop .all) (endOf (c0 .args .direction) s offsets) j (c .remainder .result) 0
+          (omega (arith, c0 .pre .0 .road .few))
           (c .before .before .before .before .before .before .before .loop .inv .1)
           value,
     )
 
 returns : tie.Need-returns Inv-loop μ-loop
 returns c =
-    let c0 = c .before .before .before .before in
-    let all : c .before .loop .j ≡ c0 .args .t1 .signals = omega arith in
+    let c0 = c .before .before .before .before .before in
+    let all : c .before .loop .j ≡ c0 .args .t1 .road .signals = omega arith in
     c .before .loop .inv .1
-    ∙ ap (λ (k : ℕ). listBelow k (endOf (c0 .args .direction) (timedStreet (c0 .args .t1)) (c0 .args .offsets .now)) ++ drop k (replicate 32 0)) all
+    ∙ ap (λ (k : ℕ). listBelow k (endOf (c0 .args .direction) (timedStreet (c0 .args .t1)) (c0 .args .offsets .now)) ++ drop k (replicate maxSignals 0)) all
 
 pub ends-spec : {M : Type 1} → statement M
 ends-spec =

@@ -1,32 +1,37 @@
--- `street::Street::built` meets its contract: the checks that passed tell what each part requires, and each part is the field that the definition names. Assumes nothing.
-use Prim.Native.Nat.{ℕ, _+_, _-_}
+-- `street::Street::built` meets its contract: the checks that passed tell what each part requires, and the distances are as many as the signals. Assumes nothing.
+use Prim.Native.Nat.{ℕ}
 use mathlib.Core.Path.{_≡_, ap, _∙_}
 use native.Mathlib.Omega.{arith}
 use lib.ListN.{length}
-use Rattle.circle.specs.Over.{countBelow}
-use Rattle.street.specs.Lists.{typed}
-use Rattle.street.specs.Times.{timeTo, roundedLink}
-use Rattle.street.specs.Streets.{padded}
-use Rattle.street.proofs.Passed.{clear}
+use Rattle.street.specs.Lists.{Lists, signals, typed}
+use Rattle.street.specs.Streets.{roadOf}
+use Rattle.street.proofs.Passed.{Clear, clear}
 use Rattle.street.proofs.Street.built.Statement.{statement}
 use Rattle.street.proofs.Street.built.Tie as tie
 
+-- the lists, and what their checks tell
+abbrev lists : tie.Start → Lists
+lists c = typed (c .args .cycle) (c .args .reds .now) (c .args .distances .now) (c .args .outbound .now) (c .args .inbound .now)
+
+passed : (c : tie.Start) → Clear (lists c) (c .args .lent)
+passed c = clear (lists c) (c .args .lent) (c .pre)
+
+new-requires : tie.Need-new-requires
+new-requires c κs = let ok = passed (c .before .before .before .before) in (ok .outbound, ok .inbound)
+
 copied-requires : tie.Need-copied-requires
-copied-requires c κs = clear (typed (c .before .before .before .before .args .cycle) (c .before .before .before .before .args .reds .now) (c .before .before .before .before .args .distances .now) (c .before .before .before .before .args .outbound .now) (c .before .before .before .before .args .inbound .now)) (c .before .before .before .before .args .lent) (c .before .before .before .before .pre) .counts .most
-
-sums-requires : tie.Need-sums-requires
-sums-requires c κs = clear (typed (c .before .before .before .before .before .args .cycle) (c .before .before .before .before .before .args .reds .now) (c .before .before .before .before .before .args .distances .now) (c .before .before .before .before .before .args .outbound .now) (c .before .before .before .before .before .args .inbound .now)) (c .before .before .before .before .before .args .lent) (c .before .before .before .before .before .pre) .outbound
-
-sums-requires-2 : tie.Need-sums-requires-2
-sums-requires-2 c κs = clear (typed (c .before .before .before .before .before .before .args .cycle) (c .before .before .before .before .before .before .args .reds .now) (c .before .before .before .before .before .before .args .distances .now) (c .before .before .before .before .before .before .args .outbound .now) (c .before .before .before .before .before .before .args .inbound .now)) (c .before .before .before .before .before .before .args .lent) (c .before .before .before .before .before .before .pre) .inbound
-
-rounded-links-requires : tie.Need-rounded-links-requires
-rounded-links-requires c κs = (clear (typed (c .before .before .before .before .before .before .before .args .cycle) (c .before .before .before .before .before .before .before .args .reds .now) (c .before .before .before .before .before .before .before .args .distances .now) (c .before .before .before .before .before .before .before .args .outbound .now) (c .before .before .before .before .before .before .before .args .inbound .now)) (c .before .before .before .before .before .before .before .args .lent) (c .before .before .before .before .before .before .before .pre) .outbound, clear (typed (c .before .before .before .before .before .before .before .args .cycle) (c .before .before .before .before .before .before .before .args .reds .now) (c .before .before .before .before .before .before .before .args .distances .now) (c .before .before .before .before .before .before .before .args .outbound .now) (c .before .before .before .before .before .before .before .args .inbound .now)) (c .before .before .before .before .before .before .before .args .lent) (c .before .before .before .before .before .before .before .pre) .inbound)
+copied-requires c κs = passed (c .before .before .before .before .before) .counts .most
 
 returns : tie.Need-returns
-returns c = let ok = clear (typed (c .before .before .before .before .before .before .before .before .args .cycle) (c .before .before .before .before .before .before .before .before .args .reds .now) (c .before .before .before .before .before .before .before .before .args .distances .now) (c .before .before .before .before .before .before .before .before .args .outbound .now) (c .before .before .before .before .before .before .before .before .args .inbound .now)) (c .before .before .before .before .before .before .before .before .args .lent) (c .before .before .before .before .before .before .before .before .pre) in let out : length (c .before .before .before .before .before .before .before .before .args .outbound .now) + 1 ≡ length (c .before .before .before .before .before .before .before .before .args .reds .now) = omega arith in let back : length (c .before .before .before .before .before .before .before .before .args .inbound .now) + 1 ≡ length (c .before .before .before .before .before .before .before .before .args .reds .now) = omega arith in let links : length (c .before .before .before .before .before .before .before .before .args .outbound .now) ≡ length (c .before .before .before .before .before .before .before .before .args .reds .now) - 1 = omega arith in λ i. record { signals = length (c .before .before .before .before .before .before .before .before .args .reds .now); cycle = c .before .before .before .before .before .before .before .before .args .cycle; reds = c .before .before .before .copied .ensures i; outbound = (c .before .before .sums .ensures ∙ ap (λ (n : ℕ). padded n (timeTo (c .before .before .before .before .before .before .before .before .args .distances .now) (c .before .before .before .before .before .before .before .before .args .outbound .now))) out) i; inbound = (c .before .sums2 .ensures ∙ ap (λ (n : ℕ). padded n (timeTo (c .before .before .before .before .before .before .before .before .args .distances .now) (c .before .before .before .before .before .before .before .before .args .inbound .now))) back) i; rounded = (c .rounded-links .ensures ∙ ap (λ (n : ℕ). countBelow n (roundedLink (c .before .before .before .before .before .before .before .before .args .distances .now) (c .before .before .before .before .before .before .before .before .args .outbound .now) (c .before .before .before .before .before .before .before .before .args .inbound .now))) links) i }
+returns c =
+    let l = lists (c .before .before .before .before .before .before) in
+    let same : length (l .distances) ≡ signals l = passed (c .before .before .before .before .before .before) .counts .distances in
+    λ i.
+    record {
+      road = (c .before .new .ensures ∙ ap (λ (n : ℕ). roadOf n (l .distances) (l .outbound) (l .inbound)) same) i;
+      cycle = l .cycle;
+      reds = c .copied .ensures i;
+    }
 
 pub built-spec : {M : Type 1} → statement M
-built-spec =
-    tie.close
-    (tie.spec copied-requires sums-requires sums-requires-2 rounded-links-requires returns)
+built-spec = tie.close (tie.spec new-requires copied-requires returns)
