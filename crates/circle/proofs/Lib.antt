@@ -1,4 +1,5 @@
 pub mod Signed
+pub mod Choices
 pub mod Man
 pub mod Over
 pub mod Method

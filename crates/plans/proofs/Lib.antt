@@ -1,5 +1,3 @@
-pub mod SearchLaws
-pub mod Raised
 pub mod OffsetLaws
 pub mod WidthLaws
 pub mod SignedLaws

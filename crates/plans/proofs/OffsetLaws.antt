@@ -19,16 +19,18 @@ use Rattle.circle.proofs.Signed.{pos-minus, pos-sub, add-sub, minus-sub, sub-eq
 use Rattle.circle.proofs.Over.{getD-listBelow}
 use Rattle.circle.proofs.Man.{man-lt, man-is, man-turns}
 use Rattle.circle.proofs.Method.{raised-width, offset-is, reference-lt}
+use Rattle.street.specs.Limits.{maxTime}
 use Rattle.street.specs.Streets.{timedStreet, Sound}
 use Rattle.street.specs.declared.Street.{Street}
-use Rattle.plans.specs.Search.{lowered, pairOf, Pair}
+use Rattle.search.specs.Search.{lowered, pairOf, Pair}
 use Rattle.plans.specs.Moved.{lowering, movedOffset}
 use Rattle.plans.specs.Steps.{Ready, shiftWidth, choiceBy, betterOf, choiceOf, loweringOf, offsetAt}
 use Rattle.plans.specs.declared.offsets.Choice.{Choice}
 use Rattle.plans.specs.declared.widths.Shift.{Shift}
 use Rattle.plans.specs.declared.widths.Shift.the-variants.{Unmoved, Outbound, Inbound}
-use Rattle.plans.proofs.SearchLaws.{surplus-some, pair-widths}
-use Rattle.plans.proofs.Raised.{lowered-injective}
+use Rattle.circle.proofs.Choices.{surplus-some}
+use Rattle.search.proofs.Pairs.{pair-widths}
+use Rattle.search.proofs.Leading.{lowered-injective}
 
 -- a raised width and its red have a u on the cycle in them
 abbrev pub HasU : ℕ → ℕ → ℕ → Type 0
@@ -93,13 +95,13 @@ pub ready-lt : (s : Street) (x : List ℕ) (c raised : ℕ) → Ready s x c rais
 ready-lt s x c raised ok = omega (arith, ok .found, reference-lt (timedStreet s) (ok .base .sound .some))
 
 -- one side of an offset is small enough that no sum wraps
-pub side-small : (s : Street) (i j : ℕ) → Sound s → i < s .signals → j < s .signals → getD (s .outbound) i 0 + getD (s .inbound) j 0 ≤ 12400062
+pub side-small : (s : Street) (i j : ℕ) → Sound s → i < s .signals → j < s .signals → getD (s .outbound) i 0 + getD (s .inbound) j 0 ≤ 2 * maxTime
 side-small s i j ok li lj = omega (arith, ok .out i li, ok .back j lj)
 
-pub lowering-small : (raised red x : ℕ) (shift : Shift) → shiftWidth shift ≤ 12000 → red ≤ 6000 → x ≤ 12000 → loweringOf shift raised red x ≤ 24000
-lowering-small raised red x Unmoved l r m = omega arith
-lowering-small raised red x (Outbound w) l r m = omega (arith, surplus-some (x + w) raised)
-lowering-small raised red x (Inbound w) l r m = omega (arith, surplus-some (w + 2 * red) x)
+pub lowering-small : (raised red x : ℕ) (shift : Shift) → loweringOf shift raised red x ≤ shiftWidth shift + x + 2 * red
+lowering-small raised red x Unmoved = omega arith
+lowering-small raised red x (Outbound w) = omega (arith, surplus-some (x + w) raised)
+lowering-small raised red x (Inbound w) = omega (arith, surplus-some (w + 2 * red) x)
 
 -- each shift's lowering, with B raised
 lowering-is : (s : Timed) (raised j x : ℕ) (shift : Shift) → lowered s raised ≡ B s → x ≡ chosen s j → loweringOf shift raised (s .red j) x ≡ lowering shift s j

@@ -38,7 +38,7 @@ use Rattle.plans.specs.declared.widths.Request.{Request}
 use Rattle.plans.specs.declared.widths.Request.the-variants as request
 use Rattle.plans.specs.declared.widths.Shift.{Shift}
 use Rattle.plans.specs.declared.widths.Shift.the-variants.{Unmoved, Outbound, Inbound}
-use Rattle.plans.proofs.Raised.{fit-sound}
+use Rattle.search.proofs.Leading.{fit-sound}
 use Rattle.plans.proofs.WidthLaws.{widest-le, range-le, platoon-le}
 
 -- platoons that passed are short enough

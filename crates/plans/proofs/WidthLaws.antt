@@ -1,6 +1,6 @@
 -- Laws of widths with B raised by the cycle: a request's range, the platoon rule and what the other direction keeps, as the code's comparisons of naturals; and no width that
 -- a request comes to is above g, which is at most the cycle. Assumes nothing.
-use Prim.Native.Nat.{ℕ, _+_, _-_, _*_, _/_, _≤_, _<_, min, max}
+use Prim.Native.Nat.{ℕ, _+_, _-_, _*_, _/_, _≤_, _<_, _^_, min, max}
 use mathlib.Core.Path.{_≡_, refl, sym, ap, ap₂, _∙_}
 use mathlib.Core.Bool.{Bool, true, false, cond}
 use native.Mathlib.Omega.{arith}
@@ -14,11 +14,12 @@ use Rattle.circle.specs.Moved.{g, inRange, otherWidth, platoonWidth}
 use Rattle.circle.proofs.Signed.{sub-pos, sub-eq, pos-sub, add-sub, minus-sub, pos-minus, le-sub, max-sub, orZero-sub}
 use Rattle.circle.proofs.Over.{minBelow, min-le, least-raised}
 use Rattle.circle.proofs.Raised.{Fit}
+use Rattle.street.specs.Limits.{maxCycle, maxHalves, maxPlatoon}
 use Rattle.street.specs.Checks.{refuse, unless}
 use Rattle.street.specs.declared.Code.the-variants.{Width}
 use Rattle.street.specs.declared.Verdict.the-variants.{Passed}
 use Rattle.street.proofs.CheckLaws.{passes}
-use Rattle.plans.specs.Search.{lowered}
+use Rattle.search.specs.Search.{lowered}
 use Rattle.plans.specs.Requests.{widthCheck}
 
 -- one signal's part of g
@@ -137,9 +138,9 @@ other-surplus s raised is w =
     ∙ minus-sub (raised + raised) (halves s + halves s) w 0))
 
 -- 2B times a platoon fits 32 bits
-pub product-fits : (cycle raised long : ℕ) → cycle ≤ 6000 → raised ≤ 4 * cycle → long ≤ 100000 → (2 * raised - 2 * (2 * cycle)) * long < 4294967296
+pub product-fits : (cycle raised long : ℕ) → cycle ≤ maxCycle → raised ≤ 4 * cycle → long ≤ maxPlatoon → (2 * raised - 2 * (2 * cycle)) * long < 2 ^ 32
 product-fits cycle raised long longest small short =
-    let twice : 2 * raised - 2 * (2 * cycle) ≤ 24000 = omega arith in
+    let twice : 2 * raised - 2 * (2 * cycle) ≤ 2 * maxHalves = omega arith in
     let most = mul-le-mul twice short in
     omega arith
 

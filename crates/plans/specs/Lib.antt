@@ -1,6 +1,5 @@
 pub mod Answers
 pub mod Equal
-pub mod Search
 pub mod Moved
 pub mod Requests
 pub mod Steps

@@ -11,7 +11,7 @@ use Rattle.circle.specs.Man.{man}
 use Rattle.circle.specs.Method.{Timed, B, reference}
 use Rattle.street.specs.Streets.{timedStreet, Sound}
 use Rattle.street.specs.declared.Street.{Street}
-use Rattle.plans.specs.Search.{lowered, Reduced, pairOf}
+use Rattle.search.specs.Search.{lowered, Reduced, pairOf}
 use Rattle.plans.specs.Moved.{outboundWidth, inboundWidth}
 use Rattle.plans.specs.declared.offsets.Choice.{Choice}
 use Rattle.plans.specs.declared.widths.Shift.{Shift}

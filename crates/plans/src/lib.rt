@@ -1,7 +1,6 @@
 // The plans: from a street's numbers and a request to the reference signal, the widths and each signal's offset (01, 'The equal plan' and
 // 'Moving width').
 mod offsets;
-mod search;
 mod widths;
 
 use street::Refusal;
@@ -10,9 +9,10 @@ use street::Verdict;
 use widths::Request;
 use widths::Shift;
 ghost use mathlib.Core.Path.{_≡_};
-ghost use Prim.Native.Nat.{_≤_};
+ghost use Prim.Native.Nat.{_≤_, _<_, _^_};
 ghost use lib.IntN.{pos, _-ℤ_};
 ghost use Rattle.circle.specs.Method.{reference};
+ghost use Rattle.street.specs.Limits.{maxHalves};
 ghost use Rattle.street.specs.Lists.{typed};
 ghost use Rattle.street.specs.Streets.{timedStreet};
 ghost use Rattle.plans.specs.Equal.{Equal};
@@ -41,7 +41,7 @@ pub enum Answer {
 
 // A raised width as the signed number that it stands for.
 fn signed(raised: u32, h: u32) -> i32
-    requires { ⌜ (raised ≤ 24000) × (h ≤ 12000) ⌝ }
+    requires { ⌜ (raised < 2 ^ 31) × (h < 2 ^ 31) ⌝ }
     ensures { λ r. ⌜ r ≡ pos raised -ℤ pos h ⌝ }
 {
     (raised as i32) - (h as i32)
@@ -49,7 +49,7 @@ fn signed(raised: u32, h: u32) -> i32
 
 // A plan's numbers, from what the search settled on, how far the request moves the equal plan, and the reference's own offset.
 fn numbers(s: Street, c: usize, raised: u32, shift: Shift, f: u32) -> Plan
-    requires { ⌜ Raised s raised × (c ≡ reference (timedStreet s)) × (shiftWidth shift ≤ 12000) × (f ≡ movedOffset shift (timedStreet s) (reference (timedStreet s))) ⌝ }
+    requires { ⌜ Raised s raised × (c ≡ reference (timedStreet s)) × (shiftWidth shift ≤ maxHalves) × (f ≡ movedOffset shift (timedStreet s) (reference (timedStreet s))) ⌝ }
     ensures { λ r. ⌜ r ≡ movedPlan shift (timedStreet s) (s .rounded) ⌝ }
 {
     let h = 2 * s.cycle;

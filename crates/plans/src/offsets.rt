@@ -1,6 +1,5 @@
 // Offsets against a reference (01, 'The equal plan' and 'Moving width'): each signal's phase, how far its offset is lowered, and the lent
 // list's first entries.
-use crate::search;
 use crate::widths::Shift;
 use street::Street;
 ghost use mathlib.Core.Path.{_≡_};
@@ -8,6 +7,7 @@ ghost use mathlib.Core.List.{_++_};
 ghost use Prim.Native.Nat.{_*_, _≤_, _<_};
 ghost use lib.ListN.{length, drop};
 ghost use Rattle.circle.specs.Over.{listBelow};
+ghost use Rattle.street.specs.Limits.{maxCycle, maxHalves, maxTime};
 ghost use Rattle.street.specs.Streets.{timedStreet};
 ghost use Rattle.plans.specs.Moved.{movedOffset};
 ghost use Rattle.plans.specs.Steps.{Ready, shiftWidth, choiceOf, loweringOf, offsetAt};
@@ -21,7 +21,7 @@ pub struct Choice {
 // The better phase of a signal against the reference, 0 on a tie, from the two places on the cycle and the signal's red. A raised width
 // is u + H - 2r.
 fn better_phase(cycle: u32, from: u32, to: u32, red: u32) -> Choice
-    requires { ⌜ (1 ≤ cycle) × (cycle ≤ 6000) × (from < 2 * cycle) × (to < 2 * cycle) × (red < cycle) ⌝ }
+    requires { ⌜ (1 ≤ cycle) × (cycle ≤ maxCycle) × (from < 2 * cycle) × (to < 2 * cycle) × (red < cycle) ⌝ }
     ensures { λ r. ⌜ r ≡ choiceOf cycle from to red ⌝ }
 {
     let w = search::pair(cycle, from, to, red);
@@ -39,13 +39,13 @@ fn better_phase(cycle: u32, from: u32, to: u32, red: u32) -> Choice
 
 // By how much an offset is lowered, from its signal's red and u.
 fn lowered_by(raised: u32, shift: Shift, red: u32, u: u32) -> u32
-    requires { ⌜ (shiftWidth shift ≤ 12000) × (red ≤ 6000) × (u ≤ 12000) ⌝ }
+    requires { ⌜ (shiftWidth shift ≤ maxHalves) × (red ≤ maxCycle) × (u ≤ maxHalves) ⌝ }
     ensures { λ r. ⌜ r ≡ loweringOf shift raised red u ⌝ }
 {
     match shift {
         Shift::Unmoved => 0,
-        Shift::Outbound(width) => search::surplus(u + width, raised),
-        Shift::Inbound(width) => search::surplus(width + 2 * red, u),
+        Shift::Outbound(width) => circle::surplus(u + width, raised),
+        Shift::Inbound(width) => circle::surplus(width + 2 * red, u),
     }
 }
 
@@ -61,7 +61,7 @@ fn offset_at(
     ahead: u32,
     behind: u32,
 ) -> u32
-    requires { ⌜ (1 ≤ cycle) × (cycle ≤ 6000) × (from < 2 * cycle) × (to < 2 * cycle) × (red < cycle) × (shiftWidth shift ≤ 12000) × (ahead ≤ 12400062) × (behind ≤ 12400062) ⌝ }
+    requires { ⌜ (1 ≤ cycle) × (cycle ≤ maxCycle) × (from < 2 * cycle) × (to < 2 * cycle) × (red < cycle) × (shiftWidth shift ≤ maxHalves) × (ahead ≤ 2 * maxTime) × (behind ≤ 2 * maxTime) ⌝ }
     ensures { λ r. ⌜ r ≡ offsetAt cycle raised shift from to red ahead behind ⌝ }
 {
     let better = better_phase(cycle, from, to, red);
@@ -70,8 +70,15 @@ fn offset_at(
 }
 
 // The first entries of the lent list become the offsets; the others stay.
-pub fn write(s: Street, x: [u32; 32], c: usize, raised: u32, shift: Shift, offsets: &mut [u32])
-    requires { ⌜ Ready s x c raised × (shiftWidth shift ≤ 12000) × (s .signals ≤ length (now offsets)) ⌝ }
+pub fn write(
+    s: Street,
+    x: [u32; Street::MAX_SIGNALS],
+    c: usize,
+    raised: u32,
+    shift: Shift,
+    offsets: &mut [u32],
+)
+    requires { ⌜ Ready s x c raised × (shiftWidth shift ≤ maxHalves) × (s .signals ≤ length (now offsets)) ⌝ }
     ensures { λ _. ⌜ now (offsets .exit) ≡ listBelow (s .signals) (movedOffset shift (timedStreet s)) ++ drop (s .signals) (now (offsets .entry)) ⌝ }
 {
     let n = s.signals;

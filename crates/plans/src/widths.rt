@@ -1,16 +1,13 @@
 // Requests, and the widths that they come to (01, 'Moving width'). Widths and platoons are in halves; B comes raised by the cycle H, so
 // that it is never negative.
-use crate::search;
 use street::Code;
-use street::Refusal;
 use street::Street;
 use street::Verdict;
 ghost use mathlib.Core.Path.{_≡_};
 ghost use Prim.Native.Nat.{_*_, _/_, _≤_, _<_, _^_};
 ghost use lib.IntN.{pos};
 ghost use Rattle.circle.specs.Moved.{g, otherWidth, platoonWidth};
-ghost use Rattle.street.specs.Limits.{maxPlatoon};
-ghost use Rattle.street.specs.Checks.{refuse};
+ghost use Rattle.street.specs.Limits.{maxHalves, maxPlatoon};
 ghost use Rattle.street.specs.Streets.{timedStreet, Sound};
 ghost use Rattle.plans.specs.Moved.{platoonShift, shiftOf};
 ghost use Rattle.plans.specs.Requests.{platoonCheck, widthCheck, requestCheck};
@@ -37,12 +34,6 @@ pub struct Widths {
     pub inbound: u32,
 }
 
-fn refused(code: Code, place: u32) -> Verdict
-    ensures { λ r. ⌜ r ≡ refuse code place ⌝ }
-{
-    Verdict::Refused(Refusal { code, place })
-}
-
 // g, the widest band that any signal lets through: the least H - 2r(j).
 fn widest(s: Street) -> u32
     requires { ⌜ Sound s ⌝ }
@@ -53,7 +44,7 @@ fn widest(s: Street) -> u32
     let mut low = h - 2 * s.reds[0];
     let mut j: usize = 1;
     while j < n {
-        low = search::smaller(low, h - 2 * s.reds[j]);
+        low = circle::smaller(low, h - 2 * s.reds[j]);
         j += 1;
     }
     low
@@ -66,13 +57,13 @@ fn in_range(s: Street, raised: u32, width: u32) -> Verdict
 {
     let most = widest(s);
     if most < width {
-        return refused(Code::Width, 0);
+        return street::refused(Code::Width, 0);
     }
     if width < 1 {
-        return refused(Code::Width, 0);
+        return street::refused(Code::Width, 0);
     }
     if width + 2 * s.cycle < raised {
-        return refused(Code::Width, 0);
+        return street::refused(Code::Width, 0);
     }
     Verdict::Passed
 }
@@ -82,10 +73,10 @@ fn short_enough(outbound: u32, inbound: u32) -> Verdict
     ensures { λ r. ⌜ r ≡ platoonCheck outbound inbound ⌝ }
 {
     if Street::MAX_PLATOON < outbound {
-        return refused(Code::Platoon, 1);
+        return street::refused(Code::Platoon, 1);
     }
     if Street::MAX_PLATOON < inbound {
-        return refused(Code::Platoon, 2);
+        return street::refused(Code::Platoon, 2);
     }
     Verdict::Passed
 }
@@ -119,9 +110,9 @@ fn share(s: Street, raised: u32, longer: u32, sum: u32) -> u32
     let h = 2 * s.cycle;
     let most = widest(s);
     if sum + 2 * h <= 2 * raised {
-        return search::smaller(portion(2 * raised - 2 * h, longer, sum), most);
+        return circle::smaller(portion(2 * raised - 2 * h, longer, sum), most);
     }
-    let width = search::smaller(longer, most);
+    let width = circle::smaller(longer, most);
     if 2 * raised <= 2 * h + width {
         return most;
     }
@@ -157,20 +148,20 @@ pub fn settle(s: Street, raised: u32, request: Request) -> Shift
 
 // What a width for one direction leaves the other: 2B less it, or 0.
 fn other(s: Street, raised: u32, width: u32) -> u32
-    requires { ⌜ Raised s raised × (width ≤ 12000) ⌝ }
+    requires { ⌜ Raised s raised × (width ≤ maxHalves) ⌝ }
     ensures { λ r. ⌜ r ≡ otherWidth (timedStreet s) width ⌝ }
 {
-    search::surplus(2 * raised, 4 * s.cycle + width)
+    circle::surplus(2 * raised, 4 * s.cycle + width)
 }
 
 // The two widths of a plan.
 pub fn reported(s: Street, raised: u32, shift: Shift) -> Widths
-    requires { ⌜ Raised s raised × (shiftWidth shift ≤ 12000) ⌝ }
+    requires { ⌜ Raised s raised × (shiftWidth shift ≤ maxHalves) ⌝ }
     ensures { λ r. ⌜ r ≡ widthsOf shift (timedStreet s) ⌝ }
 {
     match shift {
         Shift::Unmoved => {
-            let equal = search::surplus(raised, 2 * s.cycle);
+            let equal = circle::surplus(raised, 2 * s.cycle);
             Widths {
                 outbound: equal,
                 inbound: equal,

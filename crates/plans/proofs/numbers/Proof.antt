@@ -5,6 +5,7 @@ use native.Mathlib.Omega.{arith}
 use mir.Syntax.{w32}
 use mir.Val.{toZ, ofZ}
 use lib.ListN.{getD}
+use Rattle.street.specs.Limits.{maxCycle}
 use Rattle.street.specs.Streets.{timedStreet}
 use Rattle.circle.specs.Method.{B, reference, redEnd, redStart}
 use Rattle.circle.proofs.Method.{reference-lt}
@@ -18,7 +19,7 @@ reference-in : (c : tie.Start) → c .args .c < c .args .t1 .signals
 reference-in c = omega (arith, c .pre .1, reference-lt (timedStreet (c .args .t1)) (c .pre .0 .sound .some))
 
 -- the reference's own offset lies on the cycle, and its red is shorter
-on-cycle : (c : tie.Start) → (c .args .f < 2 * c .args .t1 .cycle) × (getD (c .args .t1 .reds) (c .args .c) 0 < c .args .t1 .cycle) × (1 ≤ c .args .t1 .cycle) × (c .args .t1 .cycle ≤ 6000)
+on-cycle : (c : tie.Start) → (c .args .f < 2 * c .args .t1 .cycle) × (getD (c .args .t1 .reds) (c .args .c) 0 < c .args .t1 .cycle) × (1 ≤ c .args .t1 .cycle) × (c .args .t1 .cycle ≤ maxCycle)
 on-cycle c =
     let s = timedStreet (c .args .t1) in
     let ok = c .pre .0 .sound in
@@ -30,9 +31,7 @@ B-read : (c : tie.After-signed) → toZ w32 (ofZ w32 (c .signed .result)) ≡ B 
 B-read c =
     let c0 = c .before .before .before in
     let base = c0 .pre .0 in
-    let small : c0 .args .raised ≤ 24000 = omega (arith, base .small, base .sound .longest) in
-    let short : 2 * c0 .args .t1 .cycle ≤ 12000 = omega (arith, base .sound .longest) in
-    reread (c .signed .result) (c0 .args .raised) (2 * c0 .args .t1 .cycle) small short (c .signed .ensures) ∙ c .signed .ensures ∙ base .width
+    reread (c .signed .result) (c0 .args .raised) (2 * c0 .args .t1 .cycle) (omega (arith, base .small, base .sound .longest)) (omega (arith, base .sound .longest)) (c .signed .ensures) ∙ c .signed .ensures ∙ base .width
 
 mul-h : tie.Need-mul-h
 mul-h c = search needs

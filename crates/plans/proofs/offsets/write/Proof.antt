@@ -4,11 +4,12 @@ use mathlib.Core.Path.{_≡_, refl, ap, _∙_}
 use mathlib.Core.List.{_++_}
 use native.Mathlib.Omega.{arith}
 use lib.ListN.{length-set, length, drop}
+use Rattle.street.specs.Limits.{maxSignals}
 use Rattle.street.specs.Streets.{timedStreet}
 use Rattle.circle.specs.Over.{listBelow}
 use Rattle.circle.proofs.Over.{fill-store}
 use Rattle.plans.specs.Moved.{movedOffset}
-use Rattle.plans.proofs.SearchLaws.{place-lt}
+use Rattle.search.proofs.Pairs.{place-lt}
 use Rattle.plans.proofs.OffsetLaws.{ready-lt, side-small, offset-at-is}
 use borrow.Author.Needs.{needs}
 use Rattle.plans.proofs.offsets.write.Statement.{statement}
@@ -20,7 +21,7 @@ Inv-loop c raised shift offsets₀ s x n cycle from out back j₀ offsets j = (j
 abbrev μ-loop : tie.MeasureT-loop
 μ-loop c raised shift offsets₀ s x n cycle from out back j₀ offsets j = s .signals - j
 
-reference-in : (c : tie.Start Inv-loop μ-loop) → (c .args .c < c .args .t1 .signals) × (c .args .t1 .signals ≤ 32)
+reference-in : (c : tie.Start Inv-loop μ-loop) → (c .args .c < c .args .t1 .signals) × (c .args .t1 .signals ≤ maxSignals)
 reference-in c = (ready-lt (c .args .t1) (c .args .t2) (c .args .c) (c .args .raised) (c .pre .0), c .pre .0 .base .sound .few)
 
 mul-from : tie.Need-mul-from Inv-loop μ-loop

@@ -2,7 +2,7 @@
 use mathlib.Core.Path.{_∙_}
 use native.Mathlib.Omega.{arith}
 use Rattle.street.specs.Streets.{timedStreet}
-use Rattle.plans.proofs.Raised.{fit-sound}
+use Rattle.search.proofs.Leading.{fit-sound}
 use Rattle.plans.proofs.WidthLaws.{too-wide, too-narrow, wide-enough, widest-small}
 use borrow.Author.Needs.{needs}
 use Rattle.plans.proofs.widths.in_range.Statement.{statement}

@@ -3,7 +3,7 @@ use Prim.Native.Nat.{ℕ, min}
 use mathlib.Core.Path.{ap, _∙_}
 use native.Mathlib.Omega.{arith}
 use Rattle.street.specs.Streets.{timedStreet}
-use Rattle.plans.proofs.SearchLaws.{min-is}
+use Rattle.circle.proofs.Choices.{min-is}
 use Rattle.plans.proofs.WidthLaws.{platoons-fit, platoons-crowd, platoons-rest, product-fits}
 use borrow.Author.Needs.{needs}
 use Rattle.plans.proofs.widths.share.Statement.{statement}

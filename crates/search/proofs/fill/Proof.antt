@@ -1,4 +1,4 @@
--- `plans::search::fill` meets its contract. The loop's invariant: the row holds the pairs of the limits before `j`, and zeros from there on. Assumes nothing.
+-- `search::fill` meets its contract. The loop's invariant: the row holds the pairs of the limits before `j`, and zeros from there on. Assumes nothing.
 use Prim.Native.Nat.{ℕ, _-_, _≤_}
 use mathlib.Core.Path.{_≡_, refl, ap, _∙_}
 use mathlib.Core.List.{List, [], _++_}
@@ -7,9 +7,9 @@ use lib.ListN.{length, length-set, drop, getD}
 use borrow.Author.Needs.{needs}
 use Rattle.circle.specs.Over.{listBelow}
 use Rattle.circle.proofs.Over.{fill-store, getD-listBelow}
-use Rattle.plans.specs.Search.{pairOf}
-use Rattle.plans.proofs.search.fill.Statement.{statement}
-use Rattle.plans.proofs.search.fill.Tie as tie
+use Rattle.search.specs.Search.{pairOf}
+use Rattle.search.proofs.fill.Statement.{statement}
+use Rattle.search.proofs.fill.Tie as tie
 
 abbrev Inv-loop : tie.InvT-loop
 Inv-loop cycle reds x n i pairs₀ from j₀ pairs j = (j ≤ n) × (length pairs ≡ length pairs₀) × (pairs ≡ listBelow j (λ q. pairOf cycle from (getD x q 0) (getD reds q 0)) ++ drop j pairs₀)

@@ -1,4 +1,4 @@
--- `plans::search::least` meets its contract. The loop's invariant: `low` is the least over the limits before `j`, of which there is one at least. Assumes nothing.
+-- `search::least` meets its contract. The loop's invariant: `low` is the least over the limits before `j`, of which there is one at least. Assumes nothing.
 use Prim.Native.Nat.{ℕ, _-_, _≤_}
 use mathlib.Core.Path.{ap₂, _≡_, sym, ap, _∙_}
 use native.Mathlib.Omega.{arith}
@@ -7,9 +7,9 @@ use borrow.Author.Needs.{needs}
 use Rattle.circle.specs.Over.{leastBelow}
 use Rattle.circle.specs.Signed.{minℤ}
 use Rattle.circle.proofs.Over.{least-more}
-use Rattle.plans.specs.Search.{wider}
-use Rattle.plans.proofs.search.least.Statement.{statement}
-use Rattle.plans.proofs.search.least.Tie as tie
+use Rattle.search.specs.Search.{wider}
+use Rattle.search.proofs.least.Statement.{statement}
+use Rattle.search.proofs.least.Tie as tie
 
 abbrev Inv-loop : tie.InvT-loop
 Inv-loop pairs n low₀ j₀ low j = (1 ≤ j) × (j ≤ n) × (pos low ≡ leastBelow j (wider pairs))

@@ -1,4 +1,4 @@
--- `plans::search::reduced` meets its contract. The loop's invariant: the array holds the places of the signals before `k` and zeros behind them. Assumes nothing.
+-- `search::reduced` meets its contract. The loop's invariant: the array holds the places of the signals before `k` and zeros behind them. Assumes nothing.
 use Prim.Native.Nat.{_-_, _≤_}
 use mathlib.Core.Path.{_≡_, refl, ap, _∙_}
 use mathlib.Core.List.{_++_}
@@ -7,13 +7,14 @@ use lib.ListN.{replicate, drop, getD}
 use borrow.Author.Needs.{needs}
 use Rattle.circle.specs.Over.{listBelow}
 use Rattle.circle.proofs.Over.{fill-store, getD-listBelow}
+use Rattle.street.specs.Limits.{maxSignals}
 use Rattle.street.specs.Streets.{timedStreet}
-use Rattle.plans.specs.Search.{place}
-use Rattle.plans.proofs.search.reduced.Statement.{statement}
-use Rattle.plans.proofs.search.reduced.Tie as tie
+use Rattle.search.specs.Search.{place}
+use Rattle.search.proofs.reduced.Statement.{statement}
+use Rattle.search.proofs.reduced.Tie as tie
 
 abbrev Inv-loop : tie.InvT-loop
-Inv-loop s n h x₀ k₀ x k = (k ≤ s .signals) × (x ≡ listBelow k (place (timedStreet s)) ++ drop k (replicate 32 0))
+Inv-loop s n h x₀ k₀ x k = (k ≤ s .signals) × (x ≡ listBelow k (place (timedStreet s)) ++ drop k (replicate maxSignals 0))
 
 abbrev μ-loop : tie.MeasureT-loop
 μ-loop s n h x₀ k₀ x k = s .signals - k
@@ -62,7 +63,7 @@ loop-less : tie.Need-loop-less Inv-loop μ-loop
 loop-less c = search needs
 
 loop-again : tie.Need-loop-again Inv-loop μ-loop
-loop-again c = (omega arith, fill-store (replicate 32 0) (c .before .before .before .before .before .loop .x) (place (timedStreet (c .before .before .before .before .before .before .args .t1))) (c .before .before .before .before .before .loop .k) (c .remainder .result) 0 (omega (arith, c .before .before .before .before .before .before .pre .few)) (c .before .before .before .before .before .loop .inv .1) (c .remainder .ensures))
+loop-again c = (omega arith, fill-store (replicate maxSignals 0) (c .before .before .before .before .before .loop .x) (place (timedStreet (c .before .before .before .before .before .before .args .t1))) (c .before .before .before .before .before .loop .k) (c .remainder .result) 0 (omega (arith, c .before .before .before .before .before .before .pre .few)) (c .before .before .before .before .before .loop .inv .1) (c .remainder .ensures))
 
 returns : tie.Need-returns Inv-loop μ-loop
 returns c = record { each = λ k l. ap (λ x. getD x k 0) (c .before .loop .inv .1) ∙ getD-listBelow (c .before .loop .k) (place (timedStreet (c .before .before .args .t1))) _ k 0 (omega arith) }

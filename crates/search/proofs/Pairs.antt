@@ -1,50 +1,16 @@
--- Laws of the search over plain numbers: the code's remainders are `man`, its comparisons the choices between signed numbers, and a pair's two numbers are its
--- widths raised by the cycle. Assumes nothing.
-use Prim.Native.Nat.{ℕ, _+_, _-_, _*_, _≤_, _<_, min}
+-- Laws of a pair of widths: its two numbers go on from one remainder to the next, and from places on the cycle they are the pair's widths, raised by it. Assumes nothing.
+use Prim.Native.Nat.{ℕ, _+_, _-_, _*_, _≤_, _<_}
 use mathlib.Core.Path.{_≡_, sym, ap, ap₂, _∙_}
-use mathlib.Core.Bool.{cond}
 use mathlib.Core.List.{List, [], _∷_}
 use native.Mathlib.Omega.{arith}
-use native.Mathlib.Decide.{decLe}
 use lib.IntN.{pos, subℕ, _-ℤ_}
 use lib.ListN.{getD}
-use borrow.Author.Tests.{le-leb, lt-leb}
 use Rattle.circle.specs.Man.{man}
-use Rattle.circle.specs.Signed.{minℤ, maxℤ, orZero}
 use Rattle.circle.specs.Method.{Timed, halves, u, pairWidth}
-use Rattle.circle.proofs.Signed.{pos-minus, pos-sub, minus-sub, sub-eq, orZero-sub}
+use Rattle.circle.proofs.Signed.{pos-minus, pos-sub, minus-sub, sub-eq}
 use Rattle.circle.proofs.Man.{man-lt, man-step}
 use Rattle.circle.proofs.Method.{u-reduced, raised-width}
-use Rattle.plans.specs.Search.{lowered, place, pairOf, Pair, Reduced}
-
-pub min-left : (a b : ℕ) → a ≤ b → pos a ≡ minℤ (pos a) (pos b)
-min-left a b l = ap (λ t. cond t (pos a) (pos b)) (sym (le-leb a b l))
-
-pub min-right : (a b : ℕ) → b < a → pos b ≡ minℤ (pos a) (pos b)
-min-right a b l = ap (λ t. cond t (pos a) (pos b)) (sym (lt-leb a b l))
-
-pub max-right : (a b : ℕ) → a ≤ b → pos b ≡ maxℤ (pos a) (pos b)
-max-right a b l = ap (λ t. cond t (pos b) (pos a)) (sym (le-leb a b l))
-
-pub max-left : (a b : ℕ) → b < a → pos a ≡ maxℤ (pos a) (pos b)
-max-left a b l = ap (λ t. cond t (pos b) (pos a)) (sym (lt-leb a b l))
-
--- the smaller of two naturals, by the signed test
-pub min-is : (a b r : ℕ) → pos r ≡ minℤ (pos a) (pos b) → r ≡ min a b
-min-is a b r e = go (decLe a b)
-  where
-    go : Dec (a ≤ b) → r ≡ min a b
-    go (yes l) = let same : a ≡ min a b = omega arith in ap orZero (e ∙ sym (min-left a b l)) ∙ same
-    go (no n) =
-        let l : b < a = omega arith in
-        let same : b ≡ min a b = omega arith in
-        ap orZero (e ∙ sym (min-right a b l)) ∙ same
-
-pub surplus-none : (a b : ℕ) → a < b → 0 ≡ orZero (pos a -ℤ pos b)
-surplus-none a b l = let e : 0 ≡ a - b = omega arith in e ∙ sym (orZero-sub a b) ∙ ap orZero (sym (pos-minus a b))
-
-pub surplus-some : (a b : ℕ) → a - b ≡ orZero (pos a -ℤ pos b)
-surplus-some a b = sym (orZero-sub a b) ∙ ap orZero (sym (pos-minus a b))
+use Rattle.search.specs.Search.{lowered, place, pairOf, Pair, Reduced}
 
 -- a pair's two numbers, from the two remainders that the code takes one after the other
 pub pair-is : (cycle from to red even odd : ℕ) → 1 ≤ cycle → even ≡ man (2 * cycle) (pos from -ℤ pos to) → odd ≡ man (2 * cycle) (pos even -ℤ pos cycle) → (2 * (2 * cycle) - even - 2 * red) ∷ (2 * (2 * cycle) - odd - 2 * red) ∷ [] ≡ pairOf cycle from to red

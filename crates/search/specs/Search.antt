@@ -8,7 +8,7 @@ use lib.ListN.{getD}
 use Rattle.circle.specs.Man.{man}
 use Rattle.circle.specs.Signed.{maxℤ}
 use Rattle.circle.specs.Method.{Timed, halves, pairWidth, B, reference}
-use Rattle.plans.specs.declared.search.Candidate.{Candidate}
+use Rattle.search.specs.declared.Candidate.{Candidate}
 
 -- a raised number as the signed number that it stands for
 abbrev pub lowered : Timed → ℕ → ℤ

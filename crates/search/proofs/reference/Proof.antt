@@ -1,4 +1,4 @@
--- `plans::search::reference` meets its contract. The first loop's invariant: the rows before `i` are filled. The second's: `signal` leads among the candidates before `k`, the
+-- `search::reference` meets its contract. The first loop's invariant: the rows before `i` are filled. The second's: `signal` leads among the candidates before `k`, the
 -- first of those with the greatest b(i), which `raised` is. Assumes nothing.
 use Prim.Native.Nat.{ℕ, _+_, _-_, _≤_, _<_}
 use mathlib.Core.Path.{subst₂, _≡_, refl, sym, ap, _∙_}
@@ -8,15 +8,16 @@ use native.Mathlib.Omega.{arith}
 use lib.ListN.{length-set, length, getD, replicate, getD-replicate}
 use borrow.Author.Count.{below-none}
 use borrow.Author.Needs.{needs}
-use Rattle.plans.proofs.Raised.{settled, Leading, leads-first, leads-new, leads-still, row-set, fit-sound, turning, candidate-is}
+use Rattle.search.proofs.Leading.{settled, Leading, leads-first, leads-new, leads-still, row-set, fit-sound, turning, candidate-is}
+use Rattle.street.specs.Limits.{maxSignals}
 use Rattle.street.specs.Streets.{timedStreet}
-use Rattle.plans.specs.Search.{Row}
+use Rattle.search.specs.Search.{Row}
 use Rattle.circle.proofs.Raised.{b⁺}
-use Rattle.plans.proofs.search.reference.Statement.{statement}
-use Rattle.plans.proofs.search.reference.Tie as tie
+use Rattle.search.proofs.reference.Statement.{statement}
+use Rattle.search.proofs.reference.Tie as tie
 
 abbrev Inv-loop : tie.InvT-loop
-Inv-loop s x n cycle reds widths₀ i₀ widths i = (i ≤ s .signals) × (length widths ≡ 32) × ((q : ℕ) → q < 32 → length (getD widths q []) ≡ 32) × ((q : ℕ) → q < i → Row (s .cycle) (s .signals) (s .reds) x q (getD widths q []))
+Inv-loop s x n cycle reds widths₀ i₀ widths i = (i ≤ s .signals) × (length widths ≡ maxSignals) × ((q : ℕ) → q < maxSignals → length (getD widths q []) ≡ maxSignals) × ((q : ℕ) → q < i → Row (s .cycle) (s .signals) (s .reds) x q (getD widths q []))
 
 abbrev μ-loop : tie.MeasureT-loop
 μ-loop s x n cycle reds widths₀ i₀ widths i = s .signals - i
@@ -28,7 +29,7 @@ abbrev μ-loop2 : tie.MeasureT-loop2
 μ-loop2 s n cycle widths i signal₀ raised₀ k₀ signal raised k = s .signals - k
 
 loop-holds : tie.Need-loop-holds Inv-loop μ-loop Inv-loop2 μ-loop2
-loop-holds c = (search needs, refl, λ q l. ap length (getD-replicate 32 q (replicate 32 (replicate 2 0)) [] l), below-none _)
+loop-holds c = (search needs, refl, λ q l. ap length (getD-replicate maxSignals q (replicate maxSignals (replicate 2 0)) [] l), below-none _)
 
 mul-fill : tie.Need-mul-fill Inv-loop μ-loop Inv-loop2 μ-loop2
 mul-fill c = search needs
@@ -41,7 +42,7 @@ fill-requires c κs =
     let c0 = c .before .before .before .before .before .before in
     let loop = c .before .before .before .before .loop in
     let ok = c0 .pre .0 in
-    let in-row : loop .i < 32 = omega (arith, ok .few) in
+    let in-row : loop .i < maxSignals = omega (arith, ok .few) in
     (omega (arith, ok .shortest), ok .longest, ok .few, omega arith, turning (c0 .args .s) (c0 .args .t2) ok (c0 .pre .1), omega (arith, ok .few, loop .inv .2 (loop .i) in-row))
 
 add-i : tie.Need-add-i Inv-loop μ-loop Inv-loop2 μ-loop2
@@ -57,11 +58,11 @@ loop-again c =
     let s = c0 .args .s in
     let i = loop .i in
     let in-table : i < length (loop .widths) = omega (arith, loop .inv .1, c0 .pre .0 .few) in
-    let in-row : i < 32 = omega (arith, c0 .pre .0 .few) in (
+    let in-row : i < maxSignals = omega (arith, c0 .pre .0 .few) in (
       omega arith,
       simp length-set (loop .inv .1),
       λ q l.
-          row-set (λ k row. length row ≡ 32) (loop .widths) i _ q in-table (c .fill .ensures .1 ∙ loop .inv .2 i in-row) (λ n. loop .inv .2 q l),
+          row-set (λ k row. length row ≡ maxSignals) (loop .widths) i _ q in-table (c .fill .ensures .1 ∙ loop .inv .2 i in-row) (λ n. loop .inv .2 q l),
       λ q l.
           row-set (Row (s .cycle) (s .signals) (s .reds) (c0 .args .t2)) (loop .widths) i _ q in-table (c .fill .ensures .0) (λ n. loop .inv .3 q (omega (arith, n))),
     )

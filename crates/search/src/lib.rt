@@ -3,12 +3,12 @@
 use street::Street;
 ghost use mathlib.Core.Path.{_≡_};
 ghost use Prim.Native.Nat.{_*_, _≤_, _<_};
-ghost use lib.IntN.{pos, _-ℤ_};
+ghost use lib.IntN.{pos};
 ghost use lib.ListN.{length};
-ghost use Rattle.circle.specs.Signed.{minℤ, maxℤ, orZero};
 ghost use Rattle.circle.specs.Over.{leastBelow};
+ghost use Rattle.street.specs.Limits.{maxSignals, maxCycle};
 ghost use Rattle.street.specs.Streets.{timedStreet, Sound};
-ghost use Rattle.plans.specs.Search.{pairOf, Reduced, Turning, Row, wider, Searched};
+ghost use Rattle.search.specs.Search.{pairOf, Reduced, Turning, Row, wider, Searched};
 
 // What the search settles on: the reference's index, counted from 0, and B raised by H.
 pub struct Candidate {
@@ -16,42 +16,14 @@ pub struct Candidate {
     pub raised: u32,
 }
 
-pub fn smaller(a: u32, b: u32) -> u32
-    ensures { λ r. ⌜ pos r ≡ minℤ (pos a) (pos b) ⌝ }
-{
-    if a <= b {
-        return a;
-    }
-    b
-}
-
-fn larger(a: u32, b: u32) -> u32
-    ensures { λ r. ⌜ pos r ≡ maxℤ (pos a) (pos b) ⌝ }
-{
-    if a <= b {
-        return b;
-    }
-    a
-}
-
-// What a has over b, or nothing.
-pub fn surplus(a: u32, b: u32) -> u32
-    ensures { λ r. ⌜ r ≡ orZero (pos a -ℤ pos b) ⌝ }
-{
-    if a < b {
-        return 0;
-    }
-    a - b
-}
-
 // Each signal's place on the cycle: its red less its two sums.
-pub fn reduced(s: Street) -> [u32; 32]
+pub fn reduced(s: Street) -> [u32; Street::MAX_SIGNALS]
     requires { ⌜ Sound s ⌝ }
     ensures { λ r. ⌜ Reduced (timedStreet s) r ⌝ }
 {
     let n = s.signals;
     let h = 2 * s.cycle;
-    let mut x = [0u32; 32];
+    let mut x = [0u32; Street::MAX_SIGNALS];
     let mut k: usize = 0;
     while k < n {
         x[k] = circle::remainder(h, s.reds[k], s.outbound[k] + s.inbound[k]);
@@ -62,7 +34,7 @@ pub fn reduced(s: Street) -> [u32; 32]
 
 // A pair's two raised widths, from the two signals' places on the cycle and the limit's red.
 pub fn pair(cycle: u32, from: u32, to: u32, red: u32) -> [u32; 2]
-    requires { ⌜ (1 ≤ cycle) × (cycle ≤ 6000) × (from < 2 * cycle) × (to < 2 * cycle) × (red < cycle) ⌝ }
+    requires { ⌜ (1 ≤ cycle) × (cycle ≤ maxCycle) × (from < 2 * cycle) × (to < 2 * cycle) × (red < cycle) ⌝ }
     ensures { λ r. ⌜ r ≡ pairOf cycle from to red ⌝ }
 {
     let h = 2 * cycle;
@@ -72,8 +44,15 @@ pub fn pair(cycle: u32, from: u32, to: u32, red: u32) -> [u32; 2]
 }
 
 // Fills a candidate's row: a pair of raised widths for each limit.
-fn fill(cycle: u32, reds: &[u32; 32], x: &[u32; 32], n: usize, i: usize, pairs: &mut [[u32; 2]; 32])
-    requires { ⌜ (1 ≤ cycle) × (cycle ≤ 6000) × (n ≤ 32) × (i < n) × Turning cycle n (now reds) (now x) × (n ≤ length (now pairs)) ⌝ }
+fn fill(
+    cycle: u32,
+    reds: &[u32; Street::MAX_SIGNALS],
+    x: &[u32; Street::MAX_SIGNALS],
+    n: usize,
+    i: usize,
+    pairs: &mut [[u32; 2]; Street::MAX_SIGNALS],
+)
+    requires { ⌜ (1 ≤ cycle) × (cycle ≤ maxCycle) × (n ≤ maxSignals) × (i < n) × Turning cycle n (now reds) (now x) × (n ≤ length (now pairs)) ⌝ }
     ensures { λ _. ⌜ Row cycle n (now (reds .entry)) (now (x .entry)) i (now (pairs .exit)) × (length (now (pairs .exit)) ≡ length (now (pairs .entry))) ⌝ }
 {
     let from = x[i];
@@ -85,14 +64,14 @@ fn fill(cycle: u32, reds: &[u32; 32], x: &[u32; 32], n: usize, i: usize, pairs: 
 }
 
 // The least over the limits of the larger width of each pair: a candidate's b(i), raised.
-fn least(pairs: &[[u32; 2]; 32], n: usize) -> u32
-    requires { ⌜ (1 ≤ n) × (n ≤ 32) ⌝ }
+fn least(pairs: &[[u32; 2]; Street::MAX_SIGNALS], n: usize) -> u32
+    requires { ⌜ (1 ≤ n) × (n ≤ maxSignals) ⌝ }
     ensures { λ r. ⌜ pos r ≡ leastBelow n (wider (now (pairs .entry))) ⌝ }
 {
-    let mut low = larger(pairs[0][0], pairs[0][1]);
+    let mut low = circle::larger(pairs[0][0], pairs[0][1]);
     let mut j: usize = 1;
     while j < n {
-        low = smaller(low, larger(pairs[j][0], pairs[j][1]));
+        low = circle::smaller(low, circle::larger(pairs[j][0], pairs[j][1]));
         j += 1;
     }
     low
@@ -100,14 +79,14 @@ fn least(pairs: &[[u32; 2]; 32], n: usize) -> u32
 
 // The widths of every ordered pair under both phases, one row per candidate, filled once; and then the search over them for the
 // first candidate with the greatest b(i).
-pub fn reference(s: Street, x: [u32; 32]) -> Candidate
+pub fn reference(s: Street, x: [u32; Street::MAX_SIGNALS]) -> Candidate
     requires { ⌜ Sound s × Reduced (timedStreet s) x ⌝ }
     ensures { λ r. ⌜ Searched (timedStreet s) r ⌝ }
 {
     let n = s.signals;
     let cycle = s.cycle;
     let reds = s.reds;
-    let mut widths = [[[0u32; 2]; 32]; 32];
+    let mut widths = [[[0u32; 2]; Street::MAX_SIGNALS]; Street::MAX_SIGNALS];
     let mut i: usize = 0;
     while i < n {
         fill(cycle, &reds, &x, n, i, &mut widths[i]);

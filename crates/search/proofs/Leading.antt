@@ -16,8 +16,8 @@ use Rattle.circle.proofs.Method.{raised-width}
 use Rattle.circle.proofs.Raised.{Fit, raised, larger-raised, b⁺, b⁺-le, low, top, B-raised, reference-is}
 use Rattle.street.specs.Streets.{timedStreet, Sound}
 use Rattle.street.specs.declared.Street.{Street}
-use Rattle.plans.specs.Search.{lowered, Pair, Row, wider, Reduced, Turning, Searched}
-use Rattle.plans.proofs.SearchLaws.{pair-widths, place-lt}
+use Rattle.search.specs.Search.{lowered, Pair, Row, wider, Reduced, Turning, Searched}
+use Rattle.search.proofs.Pairs.{pair-widths, place-lt}
 
 pub lowered-injective : (s : Timed) (x y : ℕ) → lowered s x ≡ subℕ y (halves s) → x ≡ y
 lowered-injective s x y e = sub-injective x y (halves s) (sym (pos-minus x (halves s)) ∙ e)

@@ -1,7 +1,7 @@
--- `plans::search::surplus` meets its contract by its one test. Assumes nothing.
-use Rattle.plans.proofs.SearchLaws.{surplus-none, surplus-some}
-use Rattle.plans.proofs.search.surplus.Statement.{statement}
-use Rattle.plans.proofs.search.surplus.Tie as tie
+-- `circle::surplus` meets its contract by its one test. Assumes nothing.
+use Rattle.circle.proofs.Choices.{surplus-none, surplus-some}
+use Rattle.circle.proofs.surplus.Statement.{statement}
+use Rattle.circle.proofs.surplus.Tie as tie
 
 returns : tie.Need-returns
 returns c = surplus-none (c .before .args .a) (c .before .args .b) (c .if1 .taken)

@@ -1,12 +1,12 @@
--- `plans::search::pair` meets its contract: the second remainder goes on from the first, and both lie on the cycle, so that no difference wraps. Assumes nothing.
+-- `search::pair` meets its contract: the second remainder goes on from the first, and both lie on the cycle, so that no difference wraps. Assumes nothing.
 use Prim.Native.Nat.{_*_}
 use native.Mathlib.Omega.{arith}
 use lib.IntN.{pos, _-ℤ_}
 use borrow.Author.Needs.{needs}
-use Rattle.plans.proofs.SearchLaws.{pair-is}
+use Rattle.search.proofs.Pairs.{pair-is}
 use Rattle.circle.proofs.Man.{man-lt}
-use Rattle.plans.proofs.search.pair.Statement.{statement}
-use Rattle.plans.proofs.search.pair.Tie as tie
+use Rattle.search.proofs.pair.Statement.{statement}
+use Rattle.search.proofs.pair.Tie as tie
 
 mul-h : tie.Need-mul-h
 mul-h c = search needs
