@@ -5,8 +5,8 @@ use mathlib.Core.List.{List}
 use Rattle.street.specs.Limits.{maxSignals}
 use Rattle.street.specs.Lists.{Lists}
 use Rattle.sheet.specs.Reading.{readingOf}
-use Rattle.plans.specs.declared.widths.Request.{Request}
-use Rattle.plans.specs.declared.widths.Request.the-variants as request
+use Rattle.plans.specs.declared.Request.{Request}
+use Rattle.plans.specs.declared.Request.the-variants as request
 use Rattle.bands.specs.Measure.{measurementOf}
 use Rattle.printed.specs.Text.{printedOf}
 use Rattle.printed.specs.Way.{equalText}

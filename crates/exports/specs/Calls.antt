@@ -6,7 +6,7 @@ use lib.ListN.{length}
 use Rattle.street.specs.Lists.{Lists}
 use Rattle.plans.specs.Equal.{equalAnswer, equalAfter}
 use Rattle.plans.specs.Requests.{requestAnswer, requestAfter}
-use Rattle.plans.specs.declared.widths.Request.{Request}
+use Rattle.plans.specs.declared.Request.{Request}
 use Rattle.exports.specs.declared.CorbatanPlan.{CorbatanPlan}
 use Rattle.exports.specs.Flat.{flatPlan}
 

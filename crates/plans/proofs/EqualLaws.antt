@@ -23,7 +23,7 @@ use Rattle.plans.specs.Moved.{movedOffset, movedPlan}
 use Rattle.plans.specs.Requests.{Requested}
 use Rattle.plans.specs.declared.Answer.{Answer}
 use Rattle.plans.specs.declared.Answer.the-variants as answer
-use Rattle.plans.specs.declared.widths.Request.the-variants as request
+use Rattle.plans.specs.declared.Request.the-variants as request
 use Rattle.plans.specs.declared.widths.Shift.the-variants.{Unmoved}
 
 pub unmoved-offset : (s : Timed) (j : ℕ) → 0 < s .cycle → movedOffset Unmoved s j ≡ equalOffset s j

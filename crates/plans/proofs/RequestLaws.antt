@@ -34,8 +34,8 @@ use Rattle.plans.specs.Requests.{lengthCheck, platoonCheck, widthCheck, 
 use Rattle.plans.specs.Steps.{shiftWidth}
 use Rattle.plans.specs.declared.Plan.{Plan}
 use Rattle.plans.specs.declared.Answer.the-variants as answer
-use Rattle.plans.specs.declared.widths.Request.{Request}
-use Rattle.plans.specs.declared.widths.Request.the-variants as request
+use Rattle.plans.specs.declared.Request.{Request}
+use Rattle.plans.specs.declared.Request.the-variants as request
 use Rattle.plans.specs.declared.widths.Shift.{Shift}
 use Rattle.plans.specs.declared.widths.Shift.the-variants.{Unmoved, Outbound, Inbound}
 use Rattle.plans.proofs.Raised.{fit-sound}

@@ -17,8 +17,8 @@ use Rattle.street.specs.Lists.{Lists}
 use Rattle.plans.specs.Equal.{equalOffset, Equal}
 use Rattle.plans.specs.Requests.{Requested}
 use Rattle.plans.specs.declared.Answer.{Answer}
-use Rattle.plans.specs.declared.widths.Request.{Request}
-use Rattle.plans.specs.declared.widths.Request.the-variants as request
+use Rattle.plans.specs.declared.Request.{Request}
+use Rattle.plans.specs.declared.Request.the-variants as request
 
 -- one reply, and one final list
 pub record Same (r r′ : Answer) (exit exit′ : List ℕ) : Type 0 where

@@ -19,8 +19,8 @@ use Rattle.plans.specs.Answers.{answered}
 use Rattle.plans.specs.Equal.{written}
 use Rattle.plans.specs.Moved.{shiftOf, movedOffset, movedPlan}
 use Rattle.plans.specs.declared.Answer.{Answer}
-use Rattle.plans.specs.declared.widths.Request.{Request}
-use Rattle.plans.specs.declared.widths.Request.the-variants.{Equal, Outbound, Inbound, Platoons}
+use Rattle.plans.specs.declared.Request.{Request}
+use Rattle.plans.specs.declared.Request.the-variants.{Equal, Outbound, Inbound, Platoons}
 
 -- 8 PLATOON: a platoon's length against the limit, with the place of its direction
 abbrev pub lengthCheck : ℕ → ℕ → Verdict

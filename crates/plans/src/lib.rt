@@ -7,7 +7,6 @@ mod widths;
 use street::Refusal;
 use street::Street;
 use street::Verdict;
-use widths::Request;
 use widths::Shift;
 ghost use mathlib.Core.Path.{_≡_};
 ghost use Prim.Native.Nat.{_≤_};
@@ -19,6 +18,15 @@ ghost use Rattle.plans.specs.Equal.{Equal};
 ghost use Rattle.plans.specs.Moved.{movedOffset, movedPlan};
 ghost use Rattle.plans.specs.Requests.{Requested};
 ghost use Rattle.plans.specs.Steps.{Raised, shiftWidth};
+
+// What a caller asks for: the equal plan, a width for one direction, or widths by the platoons' lengths, outbound and then inbound. All
+// are in halves.
+pub enum Request {
+    Equal,
+    Outbound(u32),
+    Inbound(u32),
+    Platoons(u32, u32),
+}
 
 // A plan's numbers. The reference c is counted from 1. B and the widths are in halves, and B can be negative. `rounded` is m,
 // the number of links with a rounded time. `starts` and `ends` are instants at c, from 0 to H - 1: where the named outbound band

@@ -27,8 +27,8 @@ use Rattle.plans.specs.Moved.{shiftOf, movedOffset, movedPlan, outboundWidth, i
 use Rattle.plans.specs.Requests.{widthCheck, requestCheck, requestChecks, Requested}
 use Rattle.plans.specs.declared.Plan.{Plan}
 use Rattle.plans.specs.declared.Answer.{Answer}
-use Rattle.plans.specs.declared.widths.Request.{Request}
-use Rattle.plans.specs.declared.widths.Request.the-variants as request
+use Rattle.plans.specs.declared.Request.{Request}
+use Rattle.plans.specs.declared.Request.the-variants as request
 use Rattle.plans.specs.declared.widths.Shift.{Shift}
 use Rattle.plans.specs.declared.widths.Shift.the-variants.{Unmoved, Outbound, Inbound}
 use Rattle.promises.specs.Exact.{Fine}

@@ -12,7 +12,7 @@ use Rattle.plans.specs.Answers.{numbersOf}
 use Rattle.plans.specs.Equal.{Equal}
 use Rattle.plans.specs.Requests.{Requested}
 use Rattle.plans.specs.declared.Answer.{Answer}
-use Rattle.plans.specs.declared.widths.Request.{Request}
+use Rattle.plans.specs.declared.Request.{Request}
 use Rattle.promises.specs.Rounded.{InsideFrom, InsideTo}
 
 -- under offsets f: every departure inside the two named bands is clear, where the outbound one starts at c at the instant `starts` and is v wide, and the inbound one ends there at `ends` and

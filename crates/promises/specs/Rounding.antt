@@ -20,7 +20,7 @@ use Rattle.plans.specs.Equal.{equalOffset, Equal}
 use Rattle.plans.specs.Requests.{Requested}
 use Rattle.plans.specs.Moved.{shiftOf}
 use Rattle.plans.specs.declared.Answer.{Answer}
-use Rattle.plans.specs.declared.widths.Request.{Request}
+use Rattle.plans.specs.declared.Request.{Request}
 use Rattle.plans.specs.declared.widths.Shift.{Shift}
 use Rattle.plans.specs.declared.widths.Shift.the-variants.{Unmoved, Outbound, Inbound}
 use Rattle.promises.specs.Exact.{Fine, exactLink, exactOutbound, exactInbound}

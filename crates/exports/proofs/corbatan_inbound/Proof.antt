@@ -1,6 +1,6 @@
 -- `exports::corbatan_inbound` meets its contract: the reply is that of `plans::inbound` in C's struct, and the list is as that call left it. Assumes nothing.
 use Rattle.street.specs.Lists.{typed}
-use Rattle.plans.specs.declared.widths.Request.the-variants.{Inbound}
+use Rattle.plans.specs.declared.Request.the-variants.{Inbound}
 use Rattle.exports.proofs.Laws.{requested-flat}
 use borrow.Author.Needs.{needs}
 use Rattle.exports.proofs.corbatan_inbound.Statement.{statement}

@@ -1,6 +1,6 @@
 -- `exports::corbatan_outbound` meets its contract: the reply is that of `plans::outbound` in C's struct, and the list is as that call left it. Assumes nothing.
 use Rattle.street.specs.Lists.{typed}
-use Rattle.plans.specs.declared.widths.Request.the-variants.{Outbound}
+use Rattle.plans.specs.declared.Request.the-variants.{Outbound}
 use Rattle.exports.proofs.Laws.{requested-flat}
 use borrow.Author.Needs.{needs}
 use Rattle.exports.proofs.corbatan_outbound.Statement.{statement}
