@@ -1,5 +1,4 @@
 pub mod Answers
-pub mod Equal
 pub mod Search
 pub mod Moved
 pub mod Requests
