@@ -9,18 +9,17 @@ use Rattle.street.specs.declared.Refusal.{Refusal}
 use Rattle.street.specs.declared.Verdict.the-variants as verdict
 use Rattle.sheet.specs.declared.Reading.{Reading}
 use Rattle.plans.specs.Answers.{noPlan}
-use Rattle.plans.specs.Equal as plans
-use Rattle.plans.specs.Requests as requests
+use Rattle.plans.specs.Requests as plans
 use Rattle.plans.specs.declared.Plan.{Plan}
 use Rattle.plans.specs.declared.Answer.{Answer}
 use Rattle.plans.specs.declared.Answer.the-variants as answer
-use Rattle.plans.specs.declared.widths.Request.{Request}
+use Rattle.plans.specs.declared.Request.{Request}
 use Rattle.bands.specs.Measure.{noBand}
 use Rattle.bands.specs.declared.Measurement.the-variants as measurement
 use Rattle.exports.specs.declared.CorbatanPlan.{CorbatanPlan}
 use Rattle.exports.specs.declared.CorbatanSheet.{CorbatanSheet}
 use Rattle.exports.specs.Flat.{planFields, flatPlan, measureFields, flatMeasure, flatSheet, flatReading}
-use Rattle.exports.specs.Calls.{Equal, Requested}
+use Rattle.exports.specs.Calls.{Requested}
 
 -- a plan with another B
 abbrev withB : Plan → ℤ → Plan
@@ -51,10 +50,7 @@ pub measure-refused :
 measure-refused f code e = ap (λ k. measureFields (record { code = k; place = f .place; outbound = noBand; inbound = noBand })) e
 
 -- what `plans` ensures of an answer, of the struct that holds it
-pub equal-flat : (l : Lists) (entry exit : List ℕ) (a : Answer) (r : CorbatanPlan) → plans.Equal l entry exit a → r ≡ flatPlan a → Equal l entry exit r
-equal-flat l entry exit a r found e = record { reply = e ∙ ap flatPlan (found .reply); after = found .after }
-
-pub requested-flat : (asked : Request) (l : Lists) (entry exit : List ℕ) (a : Answer) (r : CorbatanPlan) → requests.Requested asked l entry exit a → r ≡ flatPlan a → Requested asked l entry exit r
+pub requested-flat : (asked : Request) (l : Lists) (entry exit : List ℕ) (a : Answer) (r : CorbatanPlan) → plans.Requested asked l entry exit a → r ≡ flatPlan a → Requested asked l entry exit r
 requested-flat asked l entry exit a r found e = record { reply = e ∙ ap flatPlan (found .reply); after = found .after }
 
 -- a reading by its verdict

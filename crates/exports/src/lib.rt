@@ -2,6 +2,7 @@
 // pointer and a count to C. C has no enums with fields, so a reply is one struct, whose code is 0 where nothing was refused.
 use bands::Measurement;
 use plans::Answer;
+use plans::Request;
 use sheet::Sheet;
 use street::Street;
 use street::Verdict;
@@ -10,12 +11,12 @@ ghost use mathlib.Core.Path.{_≡_};
 ghost use Rattle.street.specs.Limits.{maxSignals};
 ghost use Rattle.street.specs.Lists.{typed};
 ghost use Rattle.sheet.specs.Reading.{readingOf};
-ghost use Rattle.plans.specs.declared.widths.Request.the-variants.{Outbound, Inbound, Platoons};
+ghost use Rattle.plans.specs.declared.Request.the-variants.{Equal, Outbound, Inbound, Platoons};
 ghost use Rattle.bands.specs.Measure.{measurementOf};
 ghost use Rattle.printed.specs.Text.{printedOf};
 ghost use Rattle.printed.specs.Way.{equalText};
 ghost use Rattle.exports.specs.Flat.{flatPlan, flatMeasure, flatSheet, flatReading, flatText};
-ghost use Rattle.exports.specs.Calls.{Equal, Requested};
+ghost use Rattle.exports.specs.Calls.{Requested};
 
 // A plan's numbers or a refusal's, with document 01's number for the refusal. Widths, B and instants are in halves.
 #[repr(C)]
@@ -49,10 +50,10 @@ pub struct CorbatanSheet {
     pub place: u32,
     pub signals: usize,
     pub cycle: u32,
-    pub reds: [u32; 32],
-    pub distances: [u32; 32],
-    pub outbound: [u32; 32],
-    pub inbound: [u32; 32],
+    pub reds: [u32; Street::MAX_SIGNALS],
+    pub distances: [u32; Street::MAX_SIGNALS],
+    pub outbound: [u32; Street::MAX_SIGNALS],
+    pub inbound: [u32; Street::MAX_SIGNALS],
 }
 
 // A printed text: its length, and its bytes with zeros behind them.
@@ -141,7 +142,22 @@ fn numbered(s: Sheet, code: u32, place: u32) -> CorbatanSheet
     }
 }
 
-// The equal plan. The first entries of the lent list become the offsets; a refusal leaves the list as it was.
+// The plan of a request in C's struct. The first entries of the lent list become the offsets; a refusal leaves the list as it was.
+fn plan_for(
+    request: Request,
+    cycle: u32,
+    reds: &[u32],
+    distances: &[u32],
+    outbound: &[u32],
+    inbound: &[u32],
+    offsets: &mut [u32],
+) -> CorbatanPlan
+    ensures { λ r. ⌜ Requested request (typed cycle (now (reds .entry)) (now (distances .entry)) (now (outbound .entry)) (now (inbound .entry))) (now (offsets .entry)) (now (offsets .exit)) r ⌝ }
+{
+    plan(plans::plan_for(request, cycle, reds, distances, outbound, inbound, offsets))
+}
+
+// The equal plan.
 #[no_mangle]
 pub extern "C" fn corbatan_equal(
     cycle: u32,
@@ -151,9 +167,17 @@ pub extern "C" fn corbatan_equal(
     inbound: &[u32],
     offsets: &mut [u32],
 ) -> CorbatanPlan
-    ensures { λ r. ⌜ Equal (typed cycle (now (reds .entry)) (now (distances .entry)) (now (outbound .entry)) (now (inbound .entry))) (now (offsets .entry)) (now (offsets .exit)) r ⌝ }
+    ensures { λ r. ⌜ Requested Equal (typed cycle (now (reds .entry)) (now (distances .entry)) (now (outbound .entry)) (now (inbound .entry))) (now (offsets .entry)) (now (offsets .exit)) r ⌝ }
 {
-    plan(plans::equal(cycle, reds, distances, outbound, inbound, offsets))
+    plan_for(
+        Request::Equal,
+        cycle,
+        reds,
+        distances,
+        outbound,
+        inbound,
+        offsets,
+    )
 }
 
 // The plan with a requested outbound width in halves.
@@ -169,7 +193,15 @@ pub extern "C" fn corbatan_outbound(
 ) -> CorbatanPlan
     ensures { λ r. ⌜ Requested (Outbound width) (typed cycle (now (reds .entry)) (now (distances .entry)) (now (outbound .entry)) (now (inbound .entry))) (now (offsets .entry)) (now (offsets .exit)) r ⌝ }
 {
-    plan(plans::outbound(cycle, reds, distances, outbound, inbound, width, offsets))
+    plan_for(
+        Request::Outbound(width),
+        cycle,
+        reds,
+        distances,
+        outbound,
+        inbound,
+        offsets,
+    )
 }
 
 // The plan with a requested inbound width in halves.
@@ -185,7 +217,15 @@ pub extern "C" fn corbatan_inbound(
 ) -> CorbatanPlan
     ensures { λ r. ⌜ Requested (Inbound width) (typed cycle (now (reds .entry)) (now (distances .entry)) (now (outbound .entry)) (now (inbound .entry))) (now (offsets .entry)) (now (offsets .exit)) r ⌝ }
 {
-    plan(plans::inbound(cycle, reds, distances, outbound, inbound, width, offsets))
+    plan_for(
+        Request::Inbound(width),
+        cycle,
+        reds,
+        distances,
+        outbound,
+        inbound,
+        offsets,
+    )
 }
 
 // The plan from the lengths of two platoons in halves.
@@ -202,16 +242,15 @@ pub extern "C" fn corbatan_platoons(
 ) -> CorbatanPlan
     ensures { λ r. ⌜ Requested (Platoons «outbound_platoon» «inbound_platoon») (typed cycle (now (reds .entry)) (now (distances .entry)) (now (outbound .entry)) (now (inbound .entry))) (now (offsets .entry)) (now (offsets .exit)) r ⌝ }
 {
-    plan(plans::platoons(
+    plan_for(
+        Request::Platoons(outbound_platoon, inbound_platoon),
         cycle,
         reds,
         distances,
         outbound,
         inbound,
-        outbound_platoon,
-        inbound_platoon,
         offsets,
-    ))
+    )
 }
 
 // The measure of given offsets, which are an input here and not lent.

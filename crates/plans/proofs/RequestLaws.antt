@@ -28,14 +28,13 @@ use Rattle.street.specs.declared.Refusal.{Refusal}
 use Rattle.street.proofs.Passed.{first-passed, rest-passed, clear}
 use Rattle.street.proofs.Sound.{sound, street-agrees}
 use Rattle.plans.specs.Answers.{answered}
-use Rattle.plans.specs.Equal.{written}
 use Rattle.plans.specs.Moved.{platoonShift, shiftOf, lowering, movedOffset, outboundWidth, inboundWidth, movedPlan}
-use Rattle.plans.specs.Requests.{lengthCheck, platoonCheck, widthCheck, requestCheck, requestChecks, Requested}
+use Rattle.plans.specs.Requests.{lengthCheck, platoonCheck, widthCheck, requestCheck, requestChecks, written, Requested}
 use Rattle.plans.specs.Steps.{shiftWidth}
 use Rattle.plans.specs.declared.Plan.{Plan}
 use Rattle.plans.specs.declared.Answer.the-variants as answer
-use Rattle.plans.specs.declared.widths.Request.{Request}
-use Rattle.plans.specs.declared.widths.Request.the-variants as request
+use Rattle.plans.specs.declared.Request.{Request}
+use Rattle.plans.specs.declared.Request.the-variants as request
 use Rattle.plans.specs.declared.widths.Shift.{Shift}
 use Rattle.plans.specs.declared.widths.Shift.the-variants.{Unmoved, Outbound, Inbound}
 use Rattle.search.proofs.Leading.{fit-sound}

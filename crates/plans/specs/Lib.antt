@@ -1,5 +1,4 @@
 pub mod Answers
-pub mod Equal
 pub mod Moved
 pub mod Requests
 pub mod Steps

@@ -5,8 +5,8 @@ use lib.Dec.{ltb, eqb}
 use Rattle.circle.specs.Method.{Timed, B, reference, equalWidth, redEnd, redStart}
 use Rattle.circle.specs.Moved.{outboundLowering, inboundLowering, lowered, otherWidth, platoonWidth}
 use Rattle.plans.specs.declared.Plan.{Plan}
-use Rattle.plans.specs.declared.widths.Request.{Request}
-use Rattle.plans.specs.declared.widths.Request.the-variants as request
+use Rattle.plans.specs.declared.Request.{Request}
+use Rattle.plans.specs.declared.Request.the-variants as request
 use Rattle.plans.specs.declared.widths.Shift.{Shift}
 use Rattle.plans.specs.declared.widths.Shift.the-variants.{Unmoved, Outbound, Inbound}
 

@@ -1,9 +1,10 @@
--- What `outbound`, `inbound` and `platoons` answer, and what each leaves in the lent offset list (01, 'Moving width' and 'Codes, in order of checking').
+-- What a call with a request answers, and what it leaves in the lent offset list (01, 'The equal plan', 'Moving width' and 'Codes, in order of checking'). The equal plan is the request
+-- `Equal`.
 use Prim.Native.Nat.{ℕ}
 use mathlib.Core.Path.{_≡_}
 use mathlib.Core.Bool.{cond}
-use mathlib.Core.List.{List, [], _∷_}
-use lib.ListN.{length}
+use mathlib.Core.List.{List, [], _∷_, _++_}
+use lib.ListN.{length, drop}
 use lib.Dec.{leb}
 use Rattle.circle.specs.Over.{listBelow}
 use Rattle.circle.specs.Method.{Timed}
@@ -14,13 +15,12 @@ use Rattle.street.specs.Checks.{refuse, unless, firstFault, planChecks}
 use Rattle.street.specs.Times.{timed, m}
 use Rattle.street.specs.declared.Code.the-variants.{Platoon, Width}
 use Rattle.street.specs.declared.Verdict.{Verdict}
-use Rattle.street.specs.declared.Verdict.the-variants.{Passed}
+use Rattle.street.specs.declared.Verdict.the-variants.{Passed, Refused}
 use Rattle.plans.specs.Answers.{answered}
-use Rattle.plans.specs.Equal.{written}
 use Rattle.plans.specs.Moved.{shiftOf, movedOffset, movedPlan}
 use Rattle.plans.specs.declared.Answer.{Answer}
-use Rattle.plans.specs.declared.widths.Request.{Request}
-use Rattle.plans.specs.declared.widths.Request.the-variants.{Equal, Outbound, Inbound, Platoons}
+use Rattle.plans.specs.declared.Request.{Request}
+use Rattle.plans.specs.declared.Request.the-variants.{Equal, Outbound, Inbound, Platoons}
 
 -- 8 PLATOON: a platoon's length against the limit, with the place of its direction
 abbrev pub lengthCheck : ℕ → ℕ → Verdict
@@ -50,12 +50,17 @@ abbrev pub requestAnswer : Request → Lists → ℕ → Answer
 requestAnswer request l room =
     answered (requestChecks request l room) (movedPlan (shiftOf request (timed l)) (timed l) (m l))
 
+-- a list after a call that may write its first entries: as before where the call refused, else those entries and the rest as before
+abbrev pub written : Verdict → List ℕ → List ℕ → List ℕ
+written Passed entries before = entries ++ drop (length entries) before
+written (Refused f) entries before = before
+
 -- the lent list after the call
 abbrev pub requestAfter : Request → Lists → List ℕ → List ℕ
 requestAfter request l before =
     written (requestChecks request l (length before)) (listBelow (signals l) (movedOffset (shiftOf request (timed l)) (timed l))) before
 
--- the contract of a call with a request: the reply, and the lent list as the call leaves it
+-- the contract of `plan_for`, and of each call by its request: the reply, and the lent list as the call leaves it
 pub record Requested (request : Request) (l : Lists) (entry exit : List ℕ) (r : Answer) : Type 0 where
   pub reply : r ≡ requestAnswer request l (length entry)
   pub after : exit ≡ requestAfter request l entry

@@ -6,7 +6,6 @@ mod widths;
 use street::Refusal;
 use street::Street;
 use street::Verdict;
-use widths::Request;
 use widths::Shift;
 ghost use mathlib.Core.Path.{_≡_};
 ghost use Prim.Native.Nat.{_≤_, _<_, _^_};
@@ -15,10 +14,18 @@ ghost use Rattle.circle.specs.Method.{reference};
 ghost use Rattle.street.specs.Limits.{maxHalves};
 ghost use Rattle.street.specs.Lists.{typed};
 ghost use Rattle.street.specs.Streets.{timedStreet};
-ghost use Rattle.plans.specs.Equal.{Equal};
 ghost use Rattle.plans.specs.Moved.{movedOffset, movedPlan};
 ghost use Rattle.plans.specs.Requests.{Requested};
 ghost use Rattle.plans.specs.Steps.{Raised, shiftWidth};
+
+// What a caller asks for: the equal plan, a width for one direction, or widths by the platoons' lengths, outbound and then inbound. All
+// are in halves.
+pub enum Request {
+    Equal,
+    Outbound(u32),
+    Inbound(u32),
+    Platoons(u32, u32),
+}
 
 // A plan's numbers. The reference c is counted from 1. B and the widths are in halves, and B can be negative. `rounded` is m,
 // the number of links with a rounded time. `starts` and `ends` are instants at c, from 0 to H - 1: where the named outbound band
@@ -66,8 +73,9 @@ fn numbers(s: Street, c: usize, raised: u32, shift: Shift, f: u32) -> Plan
     }
 }
 
-// The plan of a request, or the first fault of the checks. The search is made once, for every kind of request.
-fn planned(
+// The library's call: the plan of a request, or the first fault of the checks (01, 'The equal plan' and 'Moving width'). The first entries of
+// the lent list become the offsets; a refusal leaves the list as it was. The search is made once, for every kind of request.
+pub fn plan_for(
     request: Request,
     cycle: u32,
     reds: &[u32],
@@ -100,8 +108,7 @@ fn planned(
     }
 }
 
-// The equal plan (01, 'The equal plan'): the published method's reference, widths and offsets at rounded times, or the first fault of
-// the checks. The first entries of the lent list become the offsets; a refusal leaves the list as it was.
+// The equal plan: the published method's reference, widths and offsets at rounded times.
 pub fn equal(
     cycle: u32,
     reds: &[u32],
@@ -110,9 +117,9 @@ pub fn equal(
     inbound: &[u32],
     offsets: &mut [u32],
 ) -> Answer
-    ensures { λ r. ⌜ Equal (typed cycle (now (reds .entry)) (now (distances .entry)) (now (outbound .entry)) (now (inbound .entry))) (now (offsets .entry)) (now (offsets .exit)) r ⌝ }
+    ensures { λ r. ⌜ Requested Request.Equal (typed cycle (now (reds .entry)) (now (distances .entry)) (now (outbound .entry)) (now (inbound .entry))) (now (offsets .entry)) (now (offsets .exit)) r ⌝ }
 {
-    planned(
+    plan_for(
         Request::Equal,
         cycle,
         reds,
@@ -135,7 +142,7 @@ pub fn outbound(
 ) -> Answer
     ensures { λ r. ⌜ Requested (Request.Outbound width) (typed cycle (now (reds .entry)) (now (distances .entry)) (now (outbound .entry)) (now (inbound .entry))) (now (offsets .entry)) (now (offsets .exit)) r ⌝ }
 {
-    planned(
+    plan_for(
         Request::Outbound(width),
         cycle,
         reds,
@@ -158,7 +165,7 @@ pub fn inbound(
 ) -> Answer
     ensures { λ r. ⌜ Requested (Request.Inbound width) (typed cycle (now (reds .entry)) (now (distances .entry)) (now (outbound .entry)) (now (inbound .entry))) (now (offsets .entry)) (now (offsets .exit)) r ⌝ }
 {
-    planned(
+    plan_for(
         Request::Inbound(width),
         cycle,
         reds,
@@ -182,7 +189,7 @@ pub fn platoons(
 ) -> Answer
     ensures { λ r. ⌜ Requested (Request.Platoons «outbound_platoon» «inbound_platoon») (typed cycle (now (reds .entry)) (now (distances .entry)) (now (outbound .entry)) (now (inbound .entry))) (now (offsets .entry)) (now (offsets .exit)) r ⌝ }
 {
-    planned(
+    plan_for(
         Request::Platoons(outbound_platoon, inbound_platoon),
         cycle,
         reds,

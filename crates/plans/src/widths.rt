@@ -1,5 +1,6 @@
-// Requests, and the widths that they come to (01, 'Moving width'). Widths and platoons are in halves; B comes raised by the cycle H, so
+// The widths that requests come to (01, 'Moving width'). Widths and platoons are in halves; B comes raised by the cycle H, so
 // that it is never negative.
+use crate::Request;
 use street::Code;
 use street::Street;
 use street::Verdict;
@@ -12,14 +13,6 @@ ghost use Rattle.street.specs.Streets.{timedStreet, Sound};
 ghost use Rattle.plans.specs.Moved.{platoonShift, shiftOf};
 ghost use Rattle.plans.specs.Requests.{platoonCheck, widthCheck, requestCheck};
 ghost use Rattle.plans.specs.Steps.{Raised, shiftWidth, widthsOf};
-
-// What a caller asks for: the equal plan, a width for one direction, or widths by the platoons' lengths, outbound and then inbound.
-pub enum Request {
-    Equal,
-    Outbound(u32),
-    Inbound(u32),
-    Platoons(u32, u32),
-}
 
 // What a request comes to: the equal plan as it is, or moved so that one direction has this width.
 pub enum Shift {

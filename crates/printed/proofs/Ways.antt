@@ -13,7 +13,6 @@ use Rattle.circle.specs.Over.{listBelow}
 use Rattle.circle.proofs.Over.{length-listBelow}
 use Rattle.street.specs.Limits.{maxSignals}
 use Rattle.street.specs.Lists.{Lists, signals}
-use Rattle.street.specs.Checks.{planChecks}
 use Rattle.street.specs.Times.{timed, m}
 use Rattle.street.specs.declared.Refusal.{Refusal}
 use Rattle.street.specs.declared.Verdict.{Verdict}
@@ -23,9 +22,12 @@ use Rattle.sheet.specs.Reading.{Parsed, accepted, refused, parsed, padded, shee
 use Rattle.sheet.specs.declared.Reading.{Reading}
 use Rattle.sheet.proofs.Form.{text-is-accepted, passed-is-text}
 use Rattle.plans.specs.Answers.{answered}
-use Rattle.plans.specs.Equal.{equalOffset, equalPlan, written, equalAnswer, equalAfter, Equal}
+use Rattle.plans.specs.Moved.{movedOffset, movedPlan}
+use Rattle.plans.specs.Requests.{requestChecks, requestAnswer, requestAfter, written, Requested}
 use Rattle.plans.specs.declared.Plan.{Plan}
 use Rattle.plans.specs.declared.Answer.{Answer}
+use Rattle.plans.specs.declared.Request.the-variants.{Equal}
+use Rattle.plans.specs.declared.widths.Shift.the-variants.{Unmoved}
 use Rattle.printed.specs.declared.Printed.{Printed}
 use Rattle.printed.specs.Text.{planLine, offsetLines, refusalLine, textOf, Prints}
 use Rattle.printed.specs.Way.{listsOf, lentOf, planText, answerText, equalText, Held}
@@ -64,19 +66,19 @@ behind Passed p entries before rest =
 behind (Refused f) p entries before rest = refl
 
 -- the text of a plan as the code prints it: its answer, and the first of all the entries that the array now holds
-pub plan-text : (l : Lists) (room k n : ℕ) (r : Answer) (before after rest : List ℕ) → k ≡ lentOf room → n ≡ signals l → before ≡ take k (replicate maxSignals 0) → Equal l before after r → textOf r (take n (after ++ rest)) ≡ planText l room
+pub plan-text : (l : Lists) (room k n : ℕ) (r : Answer) (before after rest : List ℕ) → k ≡ lentOf room → n ≡ signals l → before ≡ take k (replicate maxSignals 0) → Requested Equal l before after r → textOf r (take n (after ++ rest)) ≡ planText l room
 unfolding planText zeros
 plan-text l room k n r before after rest lent size clean ok =
-    let entries = listBelow (signals l) (equalOffset (timed l)) in
+    let entries = listBelow (signals l) (movedOffset Unmoved (timed l)) in
     let start : before ≡ zeros (lentOf room) =
     clean ∙ take-zeros k maxSignals (lent-le room k lent) ∙ ap zeros lent in
     let long : length before ≡ lentOf room = ap length start ∙ length-replicate (lentOf room) 0 in
-    let many : n ≡ length entries = size ∙ sym (length-listBelow (signals l) (equalOffset (timed l))) in
+    let many : n ≡ length entries = size ∙ sym (length-listBelow (signals l) (movedOffset Unmoved (timed l))) in
     ap₂ (λ a xs. textOf a (take n (xs ++ rest))) (ok .reply) (ok .after)
-    ∙ ap (λ (i : ℕ). textOf (equalAnswer l (length before)) (take i (equalAfter l before ++ rest))) many
-    ∙ behind (planChecks l (length before)) (equalPlan (timed l) (m l)) entries before rest
-    ∙ ap (λ (i : ℕ). textOf (equalAnswer l (length before)) (take i (equalAfter l before))) (sym many ∙ size)
-    ∙ ap₂ (λ (i : ℕ) xs. textOf (equalAnswer l i) (take (signals l) (equalAfter l xs))) long start
+    ∙ ap (λ (i : ℕ). textOf (requestAnswer Equal l (length before)) (take i (requestAfter Equal l before ++ rest))) many
+    ∙ behind (requestChecks Equal l (length before)) (movedPlan Unmoved (timed l) (m l)) entries before rest
+    ∙ ap (λ (i : ℕ). textOf (requestAnswer Equal l (length before)) (take i (requestAfter Equal l before))) (sym many ∙ size)
+    ∙ ap₂ (λ (i : ℕ) xs. textOf (requestAnswer Equal l i) (take (signals l) (requestAfter Equal l xs))) long start
 
 -- a sheet's arrays hold its lists
 take-padded : (n : ℕ) (xs : List ℕ) → length xs ≡ n → take n (padded xs) ≡ xs

@@ -9,7 +9,8 @@ use Rattle.street.specs.Limits.{minSignals, maxSignals}
 use Rattle.street.specs.Lists.{Lists, typed, signals}
 use Rattle.sheet.specs.declared.Sheet.{Sheet}
 use Rattle.sheet.specs.Reading.{Parsed, accepted, refused, parsed}
-use Rattle.plans.specs.Equal.{equalAnswer, equalAfter}
+use Rattle.plans.specs.Requests.{requestAnswer, requestAfter}
+use Rattle.plans.specs.declared.Request.the-variants.{Equal}
 use Rattle.printed.specs.Text.{textOf, refusalLine}
 
 -- the lists that a sheet's arrays hold
@@ -24,7 +25,7 @@ lentOf room = cond (ltb room maxSignals) room maxSignals
 -- the text of a street's equal plan over a lent list of so many entries that are 0: the answer, and the offsets that it leaves there
 unfoldable pub planText : Lists → ℕ → List ℕ
 planText l room =
-    textOf (equalAnswer l (lentOf room)) (take (signals l) (equalAfter l (replicate (lentOf room) 0)))
+    textOf (requestAnswer Equal l (lentOf room)) (take (signals l) (requestAfter Equal l (replicate (lentOf room) 0)))
 
 -- the text of what a sheet came to
 abbrev pub answerText : Parsed → ℕ → List ℕ

@@ -3,20 +3,21 @@
 use Prim.Native.Nat.{ℕ}
 use mathlib.Core.Path.{_≡_, refl, _∙_}
 use Rattle.circle.specs.Over.{firstBelow, sumBelow, leastBelow, greatestBelow}
-use Rattle.circle.specs.Method.{u, pairWidth, b, B, equalWidth}
+use Rattle.circle.specs.Method.{u, pairWidth, b, B, reference, offset, equalWidth}
 use Rattle.circle.specs.Bands.{width, outboundWay, inboundWay}
 use Rattle.street.specs.Lists.{Lists}
 use Rattle.street.specs.Checks.{countCheck, roomCheck, cycleCheck, redCheck, distanceCheck, speedCheck, planChecks}
 use Rattle.street.specs.Times.{timed}
 use Rattle.street.specs.declared.Verdict.the-variants.{Passed}
-use Rattle.plans.specs.Equal.{equalOffset}
 use Rattle.promises.proofs.Rounded.{measured}
 use Rattle.promises.specs.Rows.{pair, streetA}
 
 -- both bands of a street's equal plan have a width
 BothWide : Lists → ℕ → Type 0
 BothWide l v =
-    (width (outboundWay (timed l) (equalOffset (timed l))) ≡ v) × (width (inboundWay (timed l) (equalOffset (timed l))) ≡ v)
+    let s = timed l in
+    let f = offset s (reference s) in
+    (width (outboundWay s f) ≡ v) × (width (inboundWay s f) ≡ v)
 
 from-measured : (l : Lists) (v : ℕ) → planChecks l 32 ≡ Passed → equalWidth (timed l) ≡ v → BothWide l v
 unfolding BothWide

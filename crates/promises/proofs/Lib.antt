@@ -1,5 +1,6 @@
 pub mod Streets
 pub mod Widths
+pub mod Agreed
 pub mod Times
 pub mod Rounded
 pub mod Measure

@@ -8,7 +8,7 @@ use lib.IntN.{pos, _-ℤ_}
 use lib.ListN.{length, getD}
 use borrow.Author.Tests.{lt-leb}
 use Rattle.circle.specs.Man.{man}
-use Rattle.circle.specs.Method.{halves, reference, redStart}
+use Rattle.circle.specs.Method.{halves, reference, offset, redStart}
 use Rattle.circle.specs.Bands.{width, outboundWay, inboundWay}
 use Rattle.circle.proofs.Over.{first-nowhere, length-listBelow, getD-listBelow}
 use Rattle.circle.proofs.Method.{offset-lt}
@@ -20,17 +20,16 @@ use Rattle.street.specs.Times.{timed}
 use Rattle.street.specs.declared.Code.the-variants.{Offset}
 use Rattle.street.specs.declared.Verdict.the-variants.{Passed}
 use Rattle.street.proofs.Passed.{enough-room}
-use Rattle.plans.specs.Equal.{equalOffset}
 use Rattle.bands.specs.Measure.{badOffset, offsetCheck, measureChecks, measuredOf, foundOr, measurementOf, numbersOf}
 use Rattle.bands.proofs.CheckLaws.{checks-full}
 use Rattle.promises.specs.Rounded.{planOffsets, OwnMeasure}
 use Rattle.promises.proofs.Streets.{fit}
 use Rattle.promises.proofs.Rounded.{measured}
 
-written : (l : Lists) (j : ℕ) → j < signals l → getD (planOffsets l) j 0 ≡ equalOffset (timed l) j
+written : (l : Lists) (j : ℕ) → j < signals l → getD (planOffsets l) j 0 ≡ offset (timed l) (reference (timed l)) j
 written l j h =
-    subst (λ xs. getD xs j 0 ≡ equalOffset (timed l) j) (append-nil (planOffsets l))
-    (getD-listBelow (signals l) (equalOffset (timed l)) [] j 0 h)
+    subst (λ xs. getD xs j 0 ≡ offset (timed l) (reference (timed l)) j) (append-nil (planOffsets l))
+    (getD-listBelow (signals l) (offset (timed l) (reference (timed l))) [] j 0 h)
 
 module _ (l : Lists) (room : ℕ) (passed : planChecks l room ≡ Passed) where
   in-cycle : offsetCheck (l .cycle) (planOffsets l) ≡ Passed
@@ -39,17 +38,17 @@ module _ (l : Lists) (room : ℕ) (passed : planChecks l room ≡ Passed) where
       ap (faultAt Offset)
       (first-nowhere (length (planOffsets l)) (badOffset (l .cycle) (planOffsets l))
       (λ j h.
-      let size = length-listBelow (signals l) (equalOffset (timed l)) in
+      let size = length-listBelow (signals l) (offset (timed l) (reference (timed l))) in
       let below = offset-lt (timed l) (reference (timed l)) j (fit l room passed .turns) in
       lt-leb (2 * l .cycle) (getD (planOffsets l) j 0) (omega (arith, below, written l j (omega arith)))))
 
   accepted : measureChecks l (planOffsets l) ≡ Passed
   accepted =
-      checks-full l (planOffsets l) (length-listBelow (signals l) (equalOffset (timed l)))
+      checks-full l (planOffsets l) (length-listBelow (signals l) (offset (timed l) (reference (timed l))))
       ∙ ap₂ orNext (enough-room l room (signals l) passed (omega arith)) in-cycle
 
   -- only the offsets of the signals enter, in either direction
-  same-way : {lag : ℕ → ℕ} → Alike (along (outboundWay (timed l) (λ j. getD (planOffsets l) j 0)) lag) (along (outboundWay (timed l) (equalOffset (timed l))) lag)
+  same-way : {lag : ℕ → ℕ} → Alike (along (outboundWay (timed l) (λ j. getD (planOffsets l) j 0)) lag) (along (outboundWay (timed l) (offset (timed l) (reference (timed l)))) lag)
   same-way {lag} =
       record {
         around = refl;
@@ -66,9 +65,9 @@ own-measure l room passed =
     let found : numbersOf (measurementOf l (planOffsets l)) ≡ numbersOf (foundOr Passed (measuredOf s (planOffsets l))) = ap (λ v. numbersOf (foundOr v (measuredOf s (planOffsets l)))) (accepted l room passed) in (
       ap (λ n. n .code) found,
       ap (λ n. n .outbound .width) found
-          ∙ width-alike out (outboundWay s (equalOffset s)) (same-way l room passed)
+          ∙ width-alike out (outboundWay s (offset s (reference s))) (same-way l room passed)
           ∙ measured l room passed .0,
       ap (λ n. n .inbound .width) found
-          ∙ width-alike back (inboundWay s (equalOffset s)) (same-way l room passed)
+          ∙ width-alike back (inboundWay s (offset s (reference s))) (same-way l room passed)
           ∙ measured l room passed .1,
     )

@@ -1,70 +1,79 @@
--- The promises of moved plans at rounded times: the laws of the circle about moved bands, carried to measured widths. A plan that moves nothing lowers every offset by 0, so that it is the
--- equal plan. Assumes nothing.
+-- The promises of every plan at rounded times: the laws of the circle about moved bands, carried to measured widths, under the plan's own offsets and under any that agree with them at every
+-- signal. A plan that moves nothing lowers every offset by 0, so that it is the equal plan. Assumes nothing.
 use Prim.Native.Nat.{ℕ, _+_, _*_, _≤_, _<_}
-use mathlib.Core.Path.{_≡_, sym, ap, ap₂, subst, fun-ext}
+use mathlib.Core.Path.{_≡_, refl, sym, ap, ap₂, subst, _∙_}
 use mathlib.Core.Bool.{cond}
 use native.Mathlib.Omega.{arith}
 use native.Mathlib.Nat.{mul-le-mul-left}
 use native.Mathlib.Decide.{decLt, ℕ-discrete}
 use lib.Dec.{ltb}
 use borrow.Author.Tests.{lt-ltb, le-ltb, eq-eqb, ne-eqb}
-use Rattle.circle.specs.Method.{Timed, halves, inUnits, reference, equalWidth, redEnd, redStart}
+use Rattle.circle.specs.Method.{Timed, inUnits, reference, phase, offset, equalWidth}
 use Rattle.circle.specs.Bands.{width, outboundWay, inboundWay}
-use Rattle.circle.specs.Moved.{platoonWidth}
+use Rattle.circle.specs.Moved.{otherWidth, platoonWidth}
 use Rattle.circle.proofs.Raised.{Fit}
 use Rattle.circle.proofs.Since.{Stops, Rising}
-use Rattle.circle.proofs.Moving.{B⁺, equal-width, other-width}
+use Rattle.circle.proofs.Moving.{other-width}
 use Rattle.circle.proofs.Named.{Bands}
 use Rattle.circle.proofs.Planned.{equal-bands, outbound-bands, inbound-bands}
-use Rattle.circle.proofs.Best.{beside, fill}
+use Rattle.circle.proofs.Best.{beside, neither, fill}
+use Rattle.circle.proofs.Reflection.{Patterned, offset-patterned}
 use Rattle.circle.proofs.Platoons.{platoons-range}
 use Rattle.circle.proofs.Scale.{fit-scaled, stops-scaled, rising-scaled, other-scaled}
 use Rattle.street.specs.Times.{timed}
-use Rattle.plans.specs.Equal.{equalOffset}
 use Rattle.plans.proofs.EqualLaws.{unmoved-offset}
 use Rattle.plans.specs.Moved.{platoonShift, movedOffset, outboundWidth, inboundWidth}
 use Rattle.plans.specs.declared.widths.Shift.{Shift}
 use Rattle.plans.specs.declared.widths.Shift.the-variants.{Unmoved, Outbound, Inbound}
 use Rattle.promises.specs.Rounded.{OnStreets}
-use Rattle.promises.specs.Moved.{InRange, PlatoonsInRange, MovedClear, MovedMeasured, AsWideAsReported, NoneBesides}
+use Rattle.promises.specs.Moved.{InRange, PlatoonsInRange, Firm, MovedClear, MovedMeasured, AsWideAsReported, NoneBesides}
 use Rattle.promises.proofs.Streets.{fit, stops, rising}
-use Rattle.promises.proofs.Widths.{proper-way, width-passes, named-least, named-width}
+use Rattle.promises.proofs.Widths.{proper-way, width-passes, NoneLonger, bands-least, bands-measured}
+use Rattle.promises.proofs.Agreed.{bands-same, pattern-same}
 use Rattle.promises.proofs.Rounded.{bands-clear}
 
 module _ (s : Timed) (ok : Fit s) (red : Stops s) (rise : Rising s) where
-  -- a plan that moves nothing has the equal plan's offsets
-  unmoved : movedOffset Unmoved s ≡ equalOffset s
-  unmoved = fun-ext (λ j. unmoved-offset s j (omega (arith, ok .turns)))
+  -- offsets that are a plan's at every signal have its named bands, as wide as reported
+  module _ (g : ℕ → ℕ) where
+    -- where nothing is moved these are the equal plan's own
+    own : ((j : ℕ) → j < s .signals → g j ≡ movedOffset Unmoved s j) → (j : ℕ) → j < s .signals → g j ≡ offset s (reference s) j
+    own same j l = same j l ∙ unmoved-offset s j (ok .turns)
 
-  -- the named bands of every plan
-  pub moved-bands : (shift : Shift) → InRange s shift → Bands s (movedOffset shift s) (outboundWidth shift s) (inboundWidth shift s)
-  moved-bands Unmoved range = subst (λ f. Bands s f (equalWidth s) (equalWidth s)) (sym unmoved) (equal-bands s ok rise)
-  moved-bands (Outbound w) range = outbound-bands s ok rise w range
-  moved-bands (Inbound w) range = inbound-bands s ok rise w range
+    pub equal-pattern : ((j : ℕ) → j < s .signals → g j ≡ movedOffset Unmoved s j) → Patterned s (reference s) (phase s (reference s)) g
+    equal-pattern same =
+        let c = reference s in
+        pattern-same s (offset s c) g (own same) c (phase s c) (offset-patterned s c (omega (arith, ok .turns)))
+
+    pub moved-bands : (shift : Shift) → ((j : ℕ) → j < s .signals → g j ≡ movedOffset shift s j) → InRange s shift → Bands s g (outboundWidth shift s) (inboundWidth shift s)
+    moved-bands Unmoved same range =
+        bands-same s (offset s (reference s)) g (own same) (ok .some) (equalWidth s) (equalWidth s) (equal-bands s ok rise)
+    moved-bands (Outbound w) same range =
+        bands-same s (movedOffset (Outbound w) s) g same (ok .some) w (otherWidth s w) (outbound-bands s ok rise w range)
+    moved-bands (Inbound w) same range =
+        bands-same s (movedOffset (Inbound w) s) g same (ok .some) (otherWidth s w) w (inbound-bands s ok rise w range)
+
+    -- and no stretch is longer than its firm widths: two that are both above 0 make up 2B
+    pub firm-most : (shift : Shift) → ((j : ℕ) → j < s .signals → g j ≡ movedOffset shift s j) → InRange s shift → Firm shift (outboundWidth shift s) (inboundWidth shift s) → NoneLonger s g (outboundWidth shift s) (inboundWidth shift s)
+    firm-most Unmoved same range firm = neither s ok red rise (reference s) (phase s (reference s)) g (equal-pattern same)
+    firm-most (Outbound w) same range (p, q) =
+        let (out, back) = fill s ok red rise g w (otherWidth s w) p q (omega (arith, other-width s ok w)) (moved-bands (Outbound w) same range) in
+        (out .most, back .most)
+    firm-most (Inbound w) same range (p, q) =
+        let (out, back) = fill s ok red rise g (otherWidth s w) w p q (omega (arith, other-width s ok w)) (moved-bands (Inbound w) same range) in
+        (out .most, back .most)
+
+  -- a plan's own offsets among them
+  own-bands : (shift : Shift) → InRange s shift → Bands s (movedOffset shift s) (outboundWidth shift s) (inboundWidth shift s)
+  own-bands shift = moved-bands (movedOffset shift s) shift (λ j l. refl)
 
   as-reported : AsWideAsReported s
   as-reported shift range =
-      let f = movedOffset shift s in
-      let c = reference s in
-      let v′ = inboundWidth shift s in
-      let named = moved-bands shift range in
-      (named-least s ok red f c (redEnd s c (f c)) 0 (outboundWidth shift s) (named .out), named-least s ok red f c (redStart s c (f c)) v′ v′ (named .back))
-
-  -- two reported widths that are both above 0 make up 2B
-  pub sums : (shift : Shift) → InRange s shift → 1 ≤ outboundWidth shift s → 1 ≤ inboundWidth shift s → outboundWidth shift s + inboundWidth shift s + 2 * halves s ≡ 2 * B⁺ s
-  sums Unmoved range p q = omega (arith, equal-width s ok)
-  sums (Outbound w) range p q = omega (arith, other-width s ok w)
-  sums (Inbound w) range p q = omega (arith, other-width s ok w)
+      bands-least s ok red (movedOffset shift s) (outboundWidth shift s) (inboundWidth shift s) (own-bands shift range)
 
   moved-measured : MovedMeasured s
-  moved-measured shift range p q =
+  moved-measured shift range firm =
       let f = movedOffset shift s in
-      let c = reference s in
-      let v = outboundWidth shift s in
-      let v′ = inboundWidth shift s in
-      let named = moved-bands shift range in
-      let (out, back) = fill s ok red rise f v v′ p q (sums shift range p q) named in
-      (named-width s ok red f c (redEnd s c (f c)) 0 v (named .out) (out .most), named-width s ok red f c (redStart s c (f c)) v′ v′ (named .back) (back .most))
+      bands-measured s ok red f (outboundWidth shift s) (inboundWidth shift s) (own-bands shift range) (firm-most f shift (λ j l. refl) range firm)
 
   platoons-asked : PlatoonsInRange s
   unfolding platoonShift
@@ -95,7 +104,7 @@ module _ (s : Timed) (ok : Fit s) (red : Stops s) (rise : Rising s) where
 pub moved-clear : OnStreets MovedClear
 moved-clear l room passed shift range =
     let s = timed l in
-    bands-clear s (fit l room passed) (movedOffset shift s) (outboundWidth shift s) (inboundWidth shift s) (moved-bands s (fit l room passed) (stops l room passed) (rising l room passed) shift range)
+    bands-clear s (fit l room passed) (movedOffset shift s) (outboundWidth shift s) (inboundWidth shift s) (own-bands s (fit l room passed) (stops l room passed) (rising l room passed) shift range)
 
 pub as-wide-as-reported : OnStreets AsWideAsReported
 as-wide-as-reported l room passed = as-reported (timed l) (fit l room passed) (stops l room passed) (rising l room passed)

@@ -1,5 +1,5 @@
--- What rounding costs, of a call's reply. Code 0 is given only where the checks found no fault, and then the contract makes the reply's numbers those of the method and the first
--- entries of the lent list the equal plan's offsets: so what is proved of the method's numbers holds of the reply's. Assumes nothing.
+-- What rounding costs, of a call's reply. Code 0 is given only where the checks found no fault, and then the contract makes the reply's numbers those of the request's plan and the first
+-- entries of the lent list its offsets: so what is proved of the method's numbers holds of the reply's. Nothing is lowered in the equal plan, so it is the method's own. Assumes nothing.
 use Prim.Native.Nat.{ℕ, _+_, _-_, _≤_, _<_}
 use mathlib.Core.Path.{_≡_, refl, sym, ap, subst, _∙_}
 use mathlib.Core.Bool.{true}
@@ -7,10 +7,12 @@ use mathlib.Core.List.{List}
 use native.Mathlib.Omega.{arith}
 use lib.ListN.{length, drop, getD}
 use Rattle.circle.specs.Over.{listBelow}
-use Rattle.circle.specs.Method.{Timed, reference, equalWidth}
-use Rattle.circle.specs.Moved.{inRange}
+use Rattle.circle.specs.Method.{Timed, B, reference, offset, redEnd, redStart}
+use Rattle.circle.specs.Moved.{inRange, otherWidth}
 use Rattle.circle.proofs.Over.{getD-listBelow}
-use Rattle.circle.proofs.Planned.{equal-bands}
+use Rattle.circle.proofs.Method.{reference-lt}
+use Rattle.circle.proofs.Moving.{other-width}
+use Rattle.circle.proofs.Named.{Bands}
 use Rattle.street.specs.Lists.{Lists, signals}
 use Rattle.street.specs.Codes.{codeNumber}
 use Rattle.street.specs.Checks.{orNext, planChecks}
@@ -21,21 +23,22 @@ use Rattle.street.specs.declared.Verdict.{Verdict}
 use Rattle.street.specs.declared.Verdict.the-variants.{Passed, Refused}
 use Rattle.street.proofs.CheckLaws.{passes}
 use Rattle.street.proofs.Passed.{first-passed, rest-passed}
-use Rattle.plans.specs.Answers.{numbersOf, answered}
-use Rattle.plans.specs.Equal.{equalOffset, equalPlan, written, Equal}
+use Rattle.plans.specs.Answers.{verdictOf, numbersOf, answered}
 use Rattle.plans.specs.Moved.{shiftOf, movedOffset, movedPlan, outboundWidth, inboundWidth}
-use Rattle.plans.specs.Requests.{widthCheck, requestCheck, requestChecks, Requested}
+use Rattle.plans.specs.Requests.{widthCheck, requestCheck, requestChecks, written, Requested}
 use Rattle.plans.specs.declared.Plan.{Plan}
 use Rattle.plans.specs.declared.Answer.{Answer}
-use Rattle.plans.specs.declared.widths.Request.{Request}
-use Rattle.plans.specs.declared.widths.Request.the-variants as request
+use Rattle.plans.specs.declared.Request.{Request}
+use Rattle.plans.specs.declared.Request.the-variants as request
 use Rattle.plans.specs.declared.widths.Shift.{Shift}
 use Rattle.plans.specs.declared.widths.Shift.the-variants.{Unmoved, Outbound, Inbound}
 use Rattle.promises.specs.Exact.{Fine}
-use Rattle.promises.specs.Moved.{InRange}
-use Rattle.promises.specs.Rounding.{NoneBeats, Short, Exactly, NamedClear, NoneBetter, ReplyKeeps, RequestKeeps}
+use Rattle.promises.specs.Moved.{InRange, Firm}
+use Rattle.promises.specs.Rounding.{Short, Exactly, NamedClear, NoneBetter, ReplyKeeps}
+use Rattle.promises.specs.Replies.{EqualIsMethod}
+use Rattle.plans.proofs.EqualLaws.{unmoved-offset}
 use Rattle.promises.proofs.Directions.{fit, stops, rising}
-use Rattle.promises.proofs.Moved.{moved-bands, sums, platoons-in-range}
+use Rattle.promises.proofs.Moved.{equal-pattern, moved-bands, platoons-in-range}
 use Rattle.promises.proofs.Rounding.{beats, falls, kept}
 use Rattle.promises.proofs.Whole.{equal-exactly, filled, moved-exact}
 
@@ -57,27 +60,7 @@ planned : (v : Verdict) (p : Plan) → numbersOf (answered v p) .code ≡ 0 → 
 planned Passed p e = refl
 planned (Refused f) p e = absurd (omega (arith, code-some (f .code)))
 
--- all that is promised of a reply's numbers and of the offsets that it leaves
-Kept : (l : Lists) (N : ℕ) (f : ℕ → ℕ) (c : ℕ) (p : Plan) → Type 0
-Kept l N f c p =
-    NoneBeats l N (p .outbound) (p .rounded)
-    × Short l N f (p .outbound) (p .inbound) (p .rounded)
-    × NamedClear l N f c (p .starts) (p .outbound) (p .ends) (p .inbound) (p .rounded)
-    × (p .rounded ≡ 0 → Exactly l N f (p .outbound) (p .inbound))
-
--- the equal plan's numbers, with offsets that agree with it at every signal
-keeps : (l : Lists) (room N : ℕ) (f : ℕ → ℕ) → planChecks l room ≡ Passed → Fine l N → ((j : ℕ) → j < signals l → f j ≡ equalOffset (timed l) j) → Kept l N f (reference (timed l)) (equalPlan (timed l) (m l))
-unfolding Kept
-keeps l room N f passed fine same =
-    let s = timed l in
-    let named = equal-bands s (fit l room passed) (rising l room passed) in (
-      beats l room passed N fine,
-      falls l room passed N fine (equalOffset s) f same (equalWidth s) (equalWidth s) named,
-      kept l room passed N fine (equalOffset s) f same (equalWidth s) (equalWidth s) named,
-      λ none. equal-exactly l room passed N fine none f same,
-    )
-
--- the list that a call leaves has the equal plan's offsets first
+-- the list that a call leaves has the plan's offsets first
 left : (v : Verdict) (n : ℕ) (f : ℕ → ℕ) (before : List ℕ) → v ≡ Passed → (j : ℕ) → j < n → getD (written v (listBelow n f) before) j 0 ≡ f j
 left Passed n f before e j h = getD-listBelow n f (drop (length (listBelow n f)) before) j 0 h
 left (Refused r) n f before e j h = let z : _≡_ {A = ℕ} 0 1 = cc in absurd (omega arith)
@@ -86,36 +69,6 @@ left (Refused r) n f before e j h = let z : _≡_ {A = ℕ} 0 1 = cc in absurd (
 replied : (v : Verdict) (p : Plan) → v ≡ Passed → numbersOf (answered v p) .plan ≡ p
 replied Passed p e = refl
 replied (Refused f) p e = let z : _≡_ {A = ℕ} 0 1 = cc in absurd (omega arith)
-
--- so what a reply with code 0 and the lent list say: the checks passed, and numbers and offsets are those of a plan
-pub record Told (l : Lists) (room : ℕ) (plan : Plan) (f : ℕ → ℕ) (exit : List ℕ) (r : Answer) : Type 0 where
-  pub passed : planChecks l room ≡ Passed
-  pub numbers : plan ≡ numbersOf r .plan
-  pub same : (j : ℕ) → j < signals l → getD exit j 0 ≡ f j
-
-pub equal-told : (l : Lists) (entry exit : List ℕ) (r : Answer) → Equal l entry exit r → numbersOf r .code ≡ 0 → Told l (length entry) (equalPlan (timed l) (m l)) (equalOffset (timed l)) exit r
-equal-told l entry exit r call code =
-    let v = planChecks l (length entry) in
-    let plan = equalPlan (timed l) (m l) in
-    let passed = planned v plan (ap (λ a. numbersOf a .code) (sym (call .reply)) ∙ code) in
-    record {
-      passed = passed;
-      numbers = sym (ap (λ a. numbersOf a .plan) (call .reply) ∙ replied v plan passed);
-      same = λ j h. ap (λ (x : List ℕ). getD x j 0) (call .after) ∙ left v (signals l) (equalOffset (timed l)) entry passed j h;
-    }
-
--- the reference counted from 0 is one less than the reply's
-pub counted : (c : ℕ) → c ≡ c + 1 - 1
-counted c = omega arith
-
-pub reply-keeps : ReplyKeeps
-unfolding Kept
-reply-keeps l entry exit r N call code fine =
-    let s = timed l in
-    let told = equal-told l entry exit r call code in
-    let f : ℕ → ℕ = λ j. getD exit j 0 in
-    subst (λ p. Kept l N f (p .reference - 1) p) (told .numbers)
-    (subst (λ (c : ℕ). Kept l N f c (equalPlan s (m l))) (counted (reference s)) (keeps l (length entry) N f (told .passed) fine (told .same)))
 
 -- a request that passed its check comes to a shift in range
 width-passed : (s : Timed) (w : ℕ) → widthCheck s w ≡ Passed → inRange s w ≡ true
@@ -128,8 +81,30 @@ in-range (request.Outbound w) l room passed e = width-passed (timed l) w e
 in-range (request.Inbound w) l room passed e = width-passed (timed l) w e
 in-range (request.Platoons P Q) l room passed e = platoons-in-range l room passed P Q
 
-pub request-told : (asked : Request) (l : Lists) (entry exit : List ℕ) (r : Answer) → Requested asked l entry exit r → numbersOf r .code ≡ 0 → Told l (length entry) (movedPlan (shiftOf asked (timed l)) (timed l) (m l)) (movedOffset (shiftOf asked (timed l)) (timed l)) exit r × InRange (timed l) (shiftOf asked (timed l))
-request-told asked l entry exit r call code =
+-- a plan's numbers, by the reference's own offset
+abbrev planAt : Shift → Lists → ℕ → Plan
+planAt shift l f =
+    let s = timed l in
+    let c = reference s in
+    record {
+      reference = c + 1;
+      b = B s;
+      outbound = outboundWidth shift s;
+      inbound = inboundWidth shift s;
+      rounded = m l;
+      starts = redEnd s c f;
+      ends = redStart s c f;
+    }
+
+-- so what a reply with code 0 and the lent list say: the checks passed, the shift is in range, and the offsets of the list and the numbers are those of a plan
+pub record Told (l : Lists) (room : ℕ) (shift : Shift) (exit : List ℕ) (r : Answer) : Type 0 where
+  pub passed : planChecks l room ≡ Passed
+  pub range : InRange (timed l) shift
+  pub same : (j : ℕ) → j < signals l → getD exit j 0 ≡ movedOffset shift (timed l) j
+  pub numbers : planAt shift l (getD exit (reference (timed l)) 0) ≡ numbersOf r .plan
+
+pub reply-told : (asked : Request) (l : Lists) (entry exit : List ℕ) (r : Answer) → Requested asked l entry exit r → numbersOf r .code ≡ 0 → Told l (length entry) (shiftOf asked (timed l)) exit r
+reply-told asked l entry exit r call code =
     let s = timed l in
     let room = length entry in
     let shift = shiftOf asked s in
@@ -137,13 +112,36 @@ request-told asked l entry exit r call code =
     let v = requestChecks asked l room in
     let all : v ≡ Passed = planned v plan (ap (λ a. numbersOf a .code) (sym (call .reply)) ∙ code) in
     let passed = first-passed (planChecks l room) (orNext (requestCheck asked s) Passed) all in
-    let asks = rest-passed (planChecks l room) (orNext (requestCheck asked s) Passed) all in (
-      record {
-        passed = passed;
-        numbers = sym (ap (λ a. numbersOf a .plan) (call .reply) ∙ replied v plan all);
-        same = λ j h. ap (λ (x : List ℕ). getD x j 0) (call .after) ∙ left v (signals l) (movedOffset shift s) entry all j h;
-      },
-      in-range asked l room passed (first-passed (requestCheck asked s) Passed asks),
+    let asks = rest-passed (planChecks l room) (orNext (requestCheck asked s) Passed) all in
+    let same : (j : ℕ) → j < signals l → getD exit j 0 ≡ movedOffset shift s j = λ j h. ap (λ (x : List ℕ). getD x j 0) (call .after) ∙ left v (signals l) (movedOffset shift s) entry all j h in
+    record {
+      passed = passed;
+      range = in-range asked l room passed (first-passed (requestCheck asked s) Passed asks);
+      same = same;
+      numbers =
+          ap (planAt shift l) (same (reference s) (reference-lt s (fit l room passed .some)))
+          ∙ sym (ap (λ a. numbersOf a .plan) (call .reply) ∙ replied v plan all);
+    }
+
+-- the reference counted from 0 is one less than the reply's
+pub counted : (c : ℕ) → c ≡ c + 1 - 1
+counted c = omega arith
+
+-- no check is the equal plan's own
+judged : (v : Verdict) (p : Plan) → verdictOf (answered (orNext v Passed) p) ≡ v
+judged Passed p = refl
+judged (Refused f) p = refl
+
+pub equal-is-method : EqualIsMethod
+equal-is-method l entry exit r call =
+    let s = timed l in
+    let c = reference s in (
+      ap verdictOf (call .reply) ∙ judged (planChecks l (length entry)) (movedPlan Unmoved s (m l)),
+      λ code.
+          let told = reply-told request.Equal l entry exit r call code in
+          let ok = fit l (length entry) (told .passed) in
+          let own : (j : ℕ) → j < signals l → getD exit j 0 ≡ offset s c j = λ j h. told .same j h ∙ unmoved-offset s j (ok .turns) in
+          (sym (told .numbers) ∙ ap (planAt Unmoved l) (own c (reference-lt s (ok .some))), own),
     )
 
 -- no offsets do better than such a shift
@@ -152,37 +150,45 @@ none-better Unmoved l room N passed fine range = beats l room passed N fine
 none-better (Outbound w) l room N passed fine range = λ none. moved-exact l room N passed fine none w range .2
 none-better (Inbound w) l room N passed fine range = λ none. moved-exact l room N passed fine none w range .3
 
+module _ (l : Lists) (room N : ℕ) (g : ℕ → ℕ) (passed : planChecks l room ≡ Passed) (fine : Fine l N) where
+  -- the named bands under offsets that agree with a plan's
+  bands : (shift : Shift) → InRange (timed l) shift → ((j : ℕ) → j < signals l → g j ≡ movedOffset shift (timed l) j) → Bands (timed l) g (outboundWidth shift (timed l)) (inboundWidth shift (timed l))
+  bands shift range same = moved-bands (timed l) (fit l room passed) (stops l room passed) (rising l room passed) g shift same range
+
+  -- where no time was rounded, firm widths are exact
+  exactly : m l ≡ 0 → (shift : Shift) → InRange (timed l) shift → ((j : ℕ) → j < signals l → g j ≡ movedOffset shift (timed l) j) → Firm shift (outboundWidth shift (timed l)) (inboundWidth shift (timed l)) → Exactly l N g (outboundWidth shift (timed l)) (inboundWidth shift (timed l))
+  exactly none Unmoved range same firm =
+      equal-exactly l room passed N fine none g
+      (equal-pattern (timed l) (fit l room passed) (stops l room passed) (rising l room passed) g same)
+      (bands Unmoved range same)
+  exactly none (Outbound w) range same (p, q) =
+      filled l room passed N fine none g w (otherWidth (timed l) w) p q (omega (arith, other-width (timed l) (fit l room passed) w)) (bands (Outbound w) range same)
+  exactly none (Inbound w) range same (p, q) =
+      filled l room passed N fine none g (otherWidth (timed l) w) w p q (omega (arith, other-width (timed l) (fit l room passed) w)) (bands (Inbound w) range same)
+
 -- what is promised of every plan's numbers and offsets
 Carried : (shift : Shift) (l : Lists) (N : ℕ) (f : ℕ → ℕ) (c : ℕ) (p : Plan) → Type 0
 Carried shift l N f c p =
     Short l N f (p .outbound) (p .inbound) (p .rounded)
     × NamedClear l N f c (p .starts) (p .outbound) (p .ends) (p .inbound) (p .rounded)
     × NoneBetter shift l N (p .outbound) (p .inbound) (p .rounded)
-    × (p .rounded ≡ 0 → 1 ≤ p .outbound → 1 ≤ p .inbound → Exactly l N f (p .outbound) (p .inbound))
+    × (p .rounded ≡ 0 → Firm shift (p .outbound) (p .inbound) → Exactly l N f (p .outbound) (p .inbound))
 
-carried : (shift : Shift) (l : Lists) (room N : ℕ) (g : ℕ → ℕ) → planChecks l room ≡ Passed → Fine l N → InRange (timed l) shift → ((j : ℕ) → j < signals l → g j ≡ movedOffset shift (timed l) j) → Carried shift l N g (reference (timed l)) (movedPlan shift (timed l) (m l))
+pub reply-keeps : ReplyKeeps
 unfolding Carried
-carried shift l room N g passed fine range same =
-    let s = timed l in
-    let f = movedOffset shift s in
-    let v = outboundWidth shift s in
-    let v′ = inboundWidth shift s in
-    let ok = fit l room passed in
-    let red = stops l room passed in
-    let rise = rising l room passed in
-    let named = moved-bands s ok red rise shift range in (
-      falls l room passed N fine f g same v v′ named,
-      kept l room passed N fine f g same v v′ named,
-      none-better shift l room N passed fine range,
-      λ none p q. filled l room passed N fine none f g same v v′ p q (sums s ok red rise shift range p q) named,
-    )
-
-pub request-keeps : RequestKeeps
-unfolding Carried
-request-keeps asked l entry exit r N call code fine =
+reply-keeps asked l entry exit r N call code fine =
     let s = timed l in
     let shift = shiftOf asked s in
-    let (told, range) = request-told asked l entry exit r call code in
+    let room = length entry in
+    let told = reply-told asked l entry exit r call code in
     let g : ℕ → ℕ = λ j. getD exit j 0 in
+    let named = bands l room N g (told .passed) fine shift (told .range) (told .same) in
+    let v = outboundWidth shift s in
+    let v′ = inboundWidth shift s in
     subst (λ p. Carried shift l N g (p .reference - 1) p) (told .numbers)
-    (subst (λ (c : ℕ). Carried shift l N g c (movedPlan shift s (m l))) (counted (reference s)) (carried shift l (length entry) N g (told .passed) fine range (told .same)))
+    (subst (λ (c : ℕ). Carried shift l N g c (planAt shift l (g (reference s)))) (counted (reference s)) (
+      falls l room (told .passed) N fine g v v′ named,
+      kept l room (told .passed) N fine g v v′ named,
+      none-better shift l room N (told .passed) fine (told .range),
+      λ none firm. exactly l room N g (told .passed) fine none shift (told .range) (told .same) firm,
+    ))

@@ -3,7 +3,7 @@ use Prim.Native.Nat.{ℕ, _+_, _*_, _≤_, _<_, min}
 use mathlib.Core.Path.{_≡_, subst}
 use native.Mathlib.Omega.{arith}
 use native.Mathlib.Nat.{le-antisymm}
-use Rattle.circle.specs.Method.{Timed, inUnits, reference, phase, equalWidth, redEnd, redStart}
+use Rattle.circle.specs.Method.{Timed, inUnits, reference, phase, offset, equalWidth, redEnd, redStart}
 use Rattle.circle.specs.Bands.{width, outboundWay, inboundWay}
 use Rattle.circle.proofs.Arcs.{where-some}
 use Rattle.circle.proofs.Raised.{Fit}
@@ -15,10 +15,9 @@ use Rattle.circle.proofs.Planned.{equal-bands}
 use Rattle.circle.proofs.Best.{equal-best, neither}
 use Rattle.circle.proofs.Scale.{fit-scaled, stops-scaled, rising-scaled, equal-scaled}
 use Rattle.street.specs.Times.{timed}
-use Rattle.plans.specs.Equal.{equalOffset}
 use Rattle.promises.specs.Rounded.{OnStreets, Measured, NoneWider, TogetherTwiceB, Mirrored, behind, BandsClear, NamedClear}
 use Rattle.promises.proofs.Streets.{fit, stops, rising}
-use Rattle.promises.proofs.Widths.{proper-way, width-passes, inside, named-width, as-wide}
+use Rattle.promises.proofs.Widths.{proper-way, width-passes, inside, as-wide, bands-measured}
 
 module _ (s : Timed) (ok : Fit s) (red : Stops s) (rise : Rising s) where
   around : 0 < 2 * s .cycle
@@ -26,14 +25,9 @@ module _ (s : Timed) (ok : Fit s) (red : Stops s) (rise : Rising s) where
 
   equal-measured : Measured s
   equal-measured =
-      let f = equalOffset s in
       let c = reference s in
-      let v = equalWidth s in
-      let named = equal-bands s ok rise in
-      let most = neither s ok red rise c (phase s c) f (offset-patterned s c around) in (
-        named-width s ok red f c (redEnd s c (f c)) 0 v (named .out) (most .0),
-        named-width s ok red f c (redStart s c (f c)) v v (named .back) (most .1),
-      )
+      let most = neither s ok red rise c (phase s c) (offset s c) (offset-patterned s c around) in
+      bands-measured s ok red (offset s c) (equalWidth s) (equalWidth s) (equal-bands s ok rise) most
 
   -- of two bands the smaller is at most the reported width, since where one is not open it is 0
   smaller-band : (f : ℕ → ℕ) → min (width (outboundWay s f)) (width (inboundWay s f)) ≤ equalWidth s
@@ -87,4 +81,4 @@ mirrored l room passed = mirror (timed l) (fit l room passed) (stops l room pass
 pub named-clear : OnStreets NamedClear
 named-clear l room passed =
     let s = timed l in
-    bands-clear s (fit l room passed) (equalOffset s) (equalWidth s) (equalWidth s) (equal-bands s (fit l room passed) (rising l room passed))
+    bands-clear s (fit l room passed) (offset s (reference s)) (equalWidth s) (equalWidth s) (equal-bands s (fit l room passed) (rising l room passed))

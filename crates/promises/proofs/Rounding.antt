@@ -2,14 +2,14 @@
 -- 2B, counted in the fine unit: so the narrower exact band is at most B and m. The other way, the equal plan's bands at rounded times leave exact ones that fall short by m at
 -- most; and of every plan's named bands all but m halves at each end is clear, counted at the reference. Assumes nothing.
 use Prim.Native.Nat.{ℕ, _+_, _-_, _*_, _≤_, _<_, min}
-use mathlib.Core.Path.{_≡_, refl}
+use mathlib.Core.Path.{_≡_}
 use mathlib.Core.Bool.{true}
 use native.Mathlib.Omega.{arith}
 use native.Mathlib.Decide.{decLe}
 use native.Mathlib.Nat.{mul-le-mul-left}
 use lib.IntN.{pos, _-ℤ_}
 use Rattle.circle.specs.Man.{man}
-use Rattle.circle.specs.Method.{halves, reference, equalWidth, redEnd, redStart}
+use Rattle.circle.specs.Method.{halves, reference, offset, equalWidth, redEnd, redStart}
 use Rattle.circle.specs.Bands.{width, outboundWay, inboundWay}
 use Rattle.circle.specs.Moved.{inRange, outboundLowering, inboundLowering, lowered, otherWidth, platoonWidth}
 use Rattle.circle.proofs.Man.{man-turns}
@@ -25,7 +25,6 @@ use Rattle.street.specs.Lists.{Lists, signals}
 use Rattle.street.specs.Checks.{planChecks}
 use Rattle.street.specs.Times.{m, timed}
 use Rattle.street.specs.declared.Verdict.the-variants.{Passed}
-use Rattle.plans.specs.Equal.{equalOffset}
 use Rattle.promises.specs.Exact.{Fine, exactOutbound, exactInbound}
 use Rattle.promises.specs.Rounding.{NoneBeats, Short, NamedClear, OutboundClear, InboundClear, NoOffsetsBeat, NoHalvesBeat, FallsShort, NamedBandsClear}
 use Rattle.promises.proofs.Directions.{fit, rising, fit-fine, stops-fine, rising-fine, outwards, inwards}
@@ -61,25 +60,25 @@ module _ (l : Lists) (room : ℕ) (passed : planChecks l room ≡ Passed) (N : �
           omega (arith, B-most)
 
   -- offsets with named bands of v and v′ at rounded times: the exact bands fall short of them by m halves at most, and what is left of them is clear
-  module _ (f g : ℕ → ℕ) (same : (j : ℕ) → j < signals l → g j ≡ f j) (v v′ : ℕ) (named : Bands (timed l) f v v′) where
-    pub falls : Short l N g v v′ (m l)
+  module _ (f : ℕ → ℕ) (v v′ : ℕ) (named : Bands (timed l) f v v′) where
+    pub falls : Short l N f v v′ (m l)
     falls =
         let c = reference (timed l) in (
-          named-short l room passed N fine (outwards l room passed N fine) f g same c (redEnd (timed l) c (f c)) 0 v (named .out),
-          named-short l room passed N fine (inwards l room passed N fine) f g same c (redStart (timed l) c (f c)) v′ v′ (named .back),
+          named-short l room passed N fine (outwards l room passed N fine) f c (redEnd (timed l) c (f c)) 0 v (named .out),
+          named-short l room passed N fine (inwards l room passed N fine) f c (redStart (timed l) c (f c)) v′ v′ (named .back),
         )
 
-    pub kept : NamedClear l N g (reference (timed l)) (redEnd (timed l) (reference (timed l)) (f (reference (timed l)))) v (redStart (timed l) (reference (timed l)) (f (reference (timed l)))) v′ (m l)
+    pub kept : NamedClear l N f (reference (timed l)) (redEnd (timed l) (reference (timed l)) (f (reference (timed l)))) v (redStart (timed l) (reference (timed l)) (f (reference (timed l)))) v′ (m l)
     kept =
         let s = timed l in
         let c = reference s in
         let here = reference-first s (fit l room passed) .below in
         let starts = redEnd s c (f c) in
         let ends = redStart s c (f c) in (
-          named-inside l room passed N fine (outwards l room passed N fine) f g same c starts starts 0 v here
+          named-inside l room passed N fine (outwards l room passed N fine) f c starts starts 0 v here
               (record { p = 0; q = 0; eq = omega arith })
               (named .out),
-          named-inside l room passed N fine (inwards l room passed N fine) f g same c (man (halves s) (pos ends -ℤ pos v′)) ends v′ v′ here
+          named-inside l room passed N fine (inwards l room passed N fine) f c (man (halves s) (pos ends -ℤ pos v′)) ends v′ v′ here
               (man-turns (halves s) ends v′ (omega (arith, fit l room passed .turns)))
               (named .back),
         )
@@ -93,7 +92,8 @@ no-halves-beat l room N passed fine f = beats l room passed N fine (λ j. N * f 
 pub falls-short : FallsShort
 falls-short l room N passed fine =
     let s = timed l in
-    falls l room passed N fine (equalOffset s) (equalOffset s) (λ j h. refl) (equalWidth s) (equalWidth s) (equal-bands s (fit l room passed) (rising l room passed))
+    let f = offset s (reference s) in
+    falls l room passed N fine f (equalWidth s) (equalWidth s) (equal-bands s (fit l room passed) (rising l room passed))
 
 -- the plans with a width in range
 moved-clear : (l : Lists) (room N : ℕ) → planChecks l room ≡ Passed → Fine l N → (w : ℕ) → inRange (timed l) w ≡ true → OutboundClear l N w × InboundClear l N w
@@ -103,15 +103,16 @@ moved-clear l room N passed fine w range =
     let up = rising l room passed in
     let f = lowered s (outboundLowering s w) in
     let g = lowered s (inboundLowering s w) in (
-      kept l room passed N fine f f (λ j h. refl) w (otherWidth s w) (outbound-bands s ok up w range),
-      kept l room passed N fine g g (λ j h. refl) (otherWidth s w) w (inbound-bands s ok up w range),
+      kept l room passed N fine f w (otherWidth s w) (outbound-bands s ok up w range),
+      kept l room passed N fine g (otherWidth s w) w (inbound-bands s ok up w range),
     )
 
 pub named-bands-clear : NamedBandsClear
 named-bands-clear l room N passed fine =
     let s = timed l in
+    let f = offset s (reference s) in
     let ok = fit l room passed in (
-      kept l room passed N fine (equalOffset s) (equalOffset s) (λ j h. refl) (equalWidth s) (equalWidth s) (equal-bands s ok (rising l room passed)),
+      kept l room passed N fine f (equalWidth s) (equalWidth s) (equal-bands s ok (rising l room passed)),
       moved-clear l room N passed fine,
       λ L S larger.
           moved-clear l room N passed fine (platoonWidth s L (L + S)) (platoons-range s ok L (L + S) (omega arith) (omega arith)),

@@ -2,7 +2,7 @@
 -- a window of that length. So an exact band is at most N times m narrower than a stretch of halves at rounded times, and leaves one that is at most N times m narrower than
 -- itself. Counted at a signal c, where both kinds of time agree, a stretch loses at most N times m at each end: what is left of a named band is clear. Assumes nothing.
 use Prim.Native.Nat.{ℕ, zero, suc, _+_, _-_, _*_, _≤_, _<_}
-use mathlib.Core.Path.{_≡_, refl, sym, ap, ap₂, subst, _∙_}
+use mathlib.Core.Path.{_≡_, sym, ap, ap₂, subst, _∙_}
 use mathlib.Core.Bool.{true}
 use native.Mathlib.Omega.{arith}
 use native.Mathlib.Decide.{decLe}
@@ -13,10 +13,10 @@ use Rattle.circle.specs.Method.{halves, redStart}
 use Rattle.circle.specs.Bands.{Way, clear, stretch, width, bandStart, outboundWay}
 use Rattle.circle.proofs.Man.{Turns, man-turns}
 use Rattle.circle.proofs.Tests.{all-each}
-use Rattle.circle.proofs.Arcs.{since, Passes, where-some}
+use Rattle.circle.proofs.Arcs.{since, Passes}
 use Rattle.circle.proofs.Since.{along}
 use Rattle.circle.proofs.Named.{Named, meets}
-use Rattle.circle.proofs.Stretches.{Proper, passes-stretch, since-turns, width-ge, width-le, band-starts}
+use Rattle.circle.proofs.Stretches.{Proper, passes-stretch, since-turns, width-ge, band-starts}
 use Rattle.circle.proofs.Perturbation.{lags-passes, lags-back, part}
 use Rattle.circle.proofs.Scale.{finer-passes}
 use Rattle.street.specs.Lists.{Lists, signals}
@@ -45,29 +45,28 @@ module _ (l : Lists) (room : ℕ) (passed : planChecks l room ≡ Passed) (N : �
         fits = λ j h. mul-le-mul-left N (omega (arith, ok .goes j h));
       }
 
-  -- offsets that agree at every signal leave the same times since each red, in the one form of the fine street and in the other
-  since-alike : (f g lag : ℕ → ℕ) → ((j : ℕ) → j < signals l → f j ≡ g j) → (x j : ℕ) → j < signals l → since (countedWay l N f lag) x j ≡ since (exactWay l N g lag) x j
+  -- the time since each red is the same in the one form of the fine street and in the other
+  since-alike : (f lag : ℕ → ℕ) (x j : ℕ) → since (countedWay l N f lag) x j ≡ since (exactWay l N f lag) x j
   unfolding redStart
-  since-alike f g lag same x j h =
+  since-alike f lag x j =
       let r = timed l .red j in
       let turn : 2 * (N * l .cycle) ≡ N * (2 * l .cycle) = omega arith in
       let long : 2 * (N * r) ≡ N * (2 * r) = omega arith in
-      ap₂ (λ (M f : ℕ). man M (pos (x + lag j) -ℤ pos (man M (pos f -ℤ pos (N * r)) + 2 * (N * r)))) turn (same j h)
-      ∙ ap (λ (z : ℕ). man (N * (2 * l .cycle)) (pos (x + lag j) -ℤ pos (man (N * (2 * l .cycle)) (pos (g j) -ℤ pos (N * r)) + z))) long
+      ap₂ (λ (M z : ℕ). man M (pos (x + lag j) -ℤ pos (man M (pos (f j) -ℤ pos (N * r)) + z))) turn long
 
-  to-exact : (f g lag : ℕ → ℕ) → ((j : ℕ) → j < signals l → f j ≡ g j) → (x k : ℕ) → Passes (countedWay l N f lag) x k → Passes (exactWay l N g lag) x k
-  to-exact f g lag same x k p =
-      record { each = λ j h r. omega (arith, since-alike f g lag same x j h, p .each j h (omega arith)) }
+  to-exact : (f lag : ℕ → ℕ) (x k : ℕ) → Passes (countedWay l N f lag) x k → Passes (exactWay l N f lag) x k
+  to-exact f lag x k p =
+      record { each = λ j h r. omega (arith, since-alike f lag x j, p .each j h (omega arith)) }
 
   from-exact : (f lag : ℕ → ℕ) (x k : ℕ) → Passes (exactWay l N f lag) x k → Passes (countedWay l N f lag) x k
   from-exact f lag x k p =
-      record { each = λ j h r. omega (arith, since-alike f f lag (λ j h. refl) x j h, p .each j h (omega arith)) }
+      record { each = λ j h r. omega (arith, since-alike f lag x j, p .each j h (omega arith)) }
 
   -- k departures that pass at rounded times, and at exact times all but N times m of them
-  forth : (f g : ℕ → ℕ) → ((j : ℕ) → j < signals l → f j ≡ g j) → (x k : ℕ) → N * m l ≤ k → Passes (countedWay l N f rounded) x k → Passes (exactWay l N g exact) (x + d .window .moved) (k - N * m l)
-  forth f g same x k some p =
+  forth : (f : ℕ → ℕ) (x k : ℕ) → N * m l ≤ k → Passes (countedWay l N f rounded) x k → Passes (exactWay l N f exact) (x + d .window .moved) (k - N * m l)
+  forth f x k some p =
       let w = d .window in
-      to-exact f g exact same (x + w .moved) (k - N * m l)
+      to-exact f exact (x + w .moved) (k - N * m l)
       (lags-passes (countedWay l N f rounded) exact (w .δ) (w .moved) (N * m l) (λ j h. w .each j (omega arith)) (λ j h. w .within j (omega arith)) x k some p)
 
   -- and back
@@ -101,57 +100,44 @@ module _ (l : Lists) (room : ℕ) (passed : planChecks l room ≡ Passed) (N : �
           let (y, p) = leaves f (omega arith) in
           omega (arith, most y (width (exactWay l N f exact) - N * m l) p)
 
-  -- offsets that agree at every signal have bands of one width
-  alike : (f g : ℕ → ℕ) → ((j : ℕ) → j < signals l → f j ≡ g j) → width (exactWay l N f exact) ≤ width (exactWay l N g exact)
-  alike f g same =
-      let w = exactWay l N f exact in
-      let x = bandStart w in
-      where-some (width w) (width (exactWay l N g exact))
-      (λ some.
-      let p = from-exact f exact x (width w) (band-starts w (proper f) some .passes) in
-      width-ge (exactWay l N g exact) (proper g) x (width w) some (width-le w) (to-exact f g exact same x (width w) p))
-
-  module _ (f g : ℕ → ℕ) (same : (j : ℕ) → j < signals l → g j ≡ f j) where
-    agree : (j : ℕ) → j < signals l → N * f j ≡ N * g j
-    agree j h = ap (λ (z : ℕ). N * z) (sym (same j h))
-
+  module _ (f : ℕ → ℕ) where
     -- a stretch of v halves at rounded times is N times m wider than the exact band at most
-    short : (x v : ℕ) → Passes (along (outboundWay (timed l) f) coarse) x v → N * v ≤ width (exactWay l N (λ j. N * g j) exact) + N * m l
+    short : (x v : ℕ) → Passes (along (outboundWay (timed l) f) coarse) x v → N * v ≤ width (exactWay l N (λ j. N * f j) exact) + N * m l
     short x v p = go (decLe (N * v) (N * m l))
       where
-        go : Dec (N * v ≤ N * m l) → N * v ≤ width (exactWay l N (λ j. N * g j) exact) + N * m l
+        go : Dec (N * v ≤ N * m l) → N * v ≤ width (exactWay l N (λ j. N * f j) exact) + N * m l
         go (yes little) = omega arith
         go (no more) =
             let first : 0 < signals l = fit l room passed .some in
             let most : v ≤ halves (timed l) = omega (arith, p .each 0 first (omega (arith, stops l room passed 0 first))) in
-            let w = exactWay l N (λ j. N * g j) exact in
+            let w = exactWay l N (λ j. N * f j) exact in
             let q = finer-passes N (along (outboundWay (timed l) f) coarse) (countedWay l N (λ j. N * f j) rounded) x v (d .finer f) p in
-            let r = forth (λ j. N * f j) (λ j. N * g j) agree (N * x) (N * v) (omega arith) q in
-            omega (arith, width-ge w (proper (λ j. N * g j)) (N * x + d .window .moved) (N * v - N * m l) (omega arith) (omega (arith, mul-le-mul-left N most)) r)
+            let r = forth (λ j. N * f j) (N * x) (N * v) (omega arith) q in
+            omega (arith, width-ge w (proper (λ j. N * f j)) (N * x + d .window .moved) (N * v - N * m l) (omega arith) (omega (arith, mul-le-mul-left N most)) r)
 
     around : 0 < 2 * l .cycle
     around = omega (arith, fit l room passed .turns)
 
     -- and so is a named band
-    pub named-short : (c instant a v : ℕ) → Named (along (outboundWay (timed l) f) coarse) c instant a v → N * v ≤ width (exactWay l N (λ j. N * g j) exact) + N * m l
+    pub named-short : (c instant a v : ℕ) → Named (along (outboundWay (timed l) f) coarse) c instant a v → N * v ≤ width (exactWay l N (λ j. N * f j) exact) + N * m l
     named-short c instant a v named = go (decLe 1 v)
       where
-        go : Dec (1 ≤ v) → N * v ≤ width (exactWay l N (λ j. N * g j) exact) + N * m l
+        go : Dec (1 ≤ v) → N * v ≤ width (exactWay l N (λ j. N * f j) exact) + N * m l
         go (yes some) =
             let (x, less, at-c) = meets (along (outboundWay (timed l) f) coarse) c instant a around in
             short x v (named .passes x at-c some)
         go (no none) = let e : v ≡ 0 = omega arith in omega (arith, ap (λ (z : ℕ). N * z) e)
 
     -- where nothing was rounded, a named band that no stretch in the fine unit exceeds is exact
-    pub named-exact : N * m l ≡ 0 → (c instant a v : ℕ) → Named (along (outboundWay (timed l) f) coarse) c instant a v → ((x k : ℕ) → Passes (countedWay l N (λ j. N * f j) rounded) x k → k ≤ N * v) → width (exactWay l N (λ j. N * g j) exact) ≡ N * v
+    pub named-exact : N * m l ≡ 0 → (c instant a v : ℕ) → Named (along (outboundWay (timed l) f) coarse) c instant a v → ((x k : ℕ) → Passes (countedWay l N (λ j. N * f j) rounded) x k → k ≤ N * v) → width (exactWay l N (λ j. N * f j) exact) ≡ N * v
     named-exact nothing c instant a v named most =
-        omega (arith, nothing, named-short c instant a v named, alike (λ j. N * g j) (λ j. N * f j) (λ j h. sym (agree j h)), no-wider (λ j. N * f j) (N * v) most)
+        omega (arith, nothing, named-short c instant a v named, no-wider (λ j. N * f j) (N * v) most)
 
     -- counted at c, where it comes by at the instant `start`, all of it but N times m at each end is clear
-    pub named-inside : (c start instant a v : ℕ) → c < signals l → Turns (halves (timed l)) (start + a) instant → Named (along (outboundWay (timed l) f) coarse) c instant a v → InsideClear (exactWay l N (λ j. N * g j) exact) N c start v (m l)
+    pub named-inside : (c start instant a v : ℕ) → c < signals l → Turns (halves (timed l)) (start + a) instant → Named (along (outboundWay (timed l) f) coarse) c instant a v → InsideClear (exactWay l N (λ j. N * f j) exact) N c start v (m l)
     named-inside c start instant a v here begins named y late early =
         let (x, less, at-c) = meets (along (outboundWay (timed l) f) coarse) c instant a around in
-        let z = exactWay l N (λ j. N * g j) exact in
+        let z = exactWay l N (λ j. N * f j) exact in
         let counted = countedWay l N (λ j. N * f j) rounded in
         let w = d .window in
         let Nm : ℕ = N * m l in
@@ -162,9 +148,9 @@ module _ (l : Lists) (room : ℕ) (passed : planChecks l room ≡ Passed) (N : �
         let room : 2 * Nm + 1 ≤ N * v = omega arith in
         let q = finer-passes N (along (outboundWay (timed l) f) coarse) counted x v (d .finer f) (named .passes x at-c (some v room)) in
         let r = lags-passes counted exact (λ j. w .δ j + Nm - w .δ c) late-by (2 * Nm) (λ j h. omega (arith, w .each j (omega arith))) (λ j h. omega (arith, w .within j (omega arith))) (N * x) (N * v) (omega arith) q in
-        let e = to-exact (λ j. N * f j) (λ j. N * g j) exact agree (N * x + late-by) (N * v - 2 * Nm) r in
-        let turn = man-turns (z .around) (y + exact c) (N * start) (proper (λ j. N * g j) .turns) in
-        turned z (proper (λ j. N * g j)) y (N * x + late-by) (k - Nm) (N * v - 2 * Nm) (omega arith)
+        let e = to-exact (λ j. N * f j) exact (N * x + late-by) (N * v - 2 * Nm) r in
+        let turn = man-turns (z .around) (y + exact c) (N * start) (proper (λ j. N * f j) .turns) in
+        turned z (proper (λ j. N * f j)) y (N * x + late-by) (k - Nm) (N * v - 2 * Nm) (omega arith)
         (record {
           p = turn .q + at-c .q + begins .p;
           q = turn .p + at-c .p + begins .q;

@@ -6,13 +6,13 @@ use mathlib.Core.Bool.{true}
 use native.Mathlib.Omega.{arith}
 use native.Mathlib.Nat.{le-antisymm}
 use lib.IntN.{pos, _-ℤ_}
-use Rattle.circle.specs.Method.{Timed, halves}
-use Rattle.circle.specs.Bands.{Way, clear, stretch, width, outboundWay}
+use Rattle.circle.specs.Method.{Timed, halves, reference, redEnd, redStart}
+use Rattle.circle.specs.Bands.{Way, clear, stretch, width, outboundWay, inboundWay}
 use Rattle.circle.proofs.Man.{Turns, man-lt, man-turns}
 use Rattle.circle.proofs.Arcs.{Passes, where-some}
 use Rattle.circle.proofs.Raised.{Fit}
 use Rattle.circle.proofs.Since.{along, Stops}
-use Rattle.circle.proofs.Named.{Named, meets}
+use Rattle.circle.proofs.Named.{Named, Bands, meets}
 use Rattle.circle.proofs.Tests.{all-each}
 use Rattle.circle.proofs.Stretches.{Proper, passes-stretch, since-turns, width-ge, band-starts}
 use Rattle.circle.proofs.Perturbation.{part}
@@ -82,3 +82,20 @@ module _ (s : Timed) (ok : Fit s) (red : Stops s) (f : ℕ → ℕ) {lag : ℕ �
   as-wide {lag′} like =
       width-most (along (outboundWay s f) lag′) (proper-way s f ok) (width (along (outboundWay s f) lag))
       (λ x k p. let (y, l, q) = like x k p in stretch-least y k q)
+
+-- no stretch under offsets f is longer than v outbound, nor than v′ inbound
+abbrev pub NoneLonger : Timed → (ℕ → ℕ) → ℕ → ℕ → Type 0
+NoneLonger s f v v′ =
+    ((x k : ℕ) → Passes (outboundWay s f) x k → k ≤ v) × ((y k : ℕ) → Passes (inboundWay s f) y k → k ≤ v′)
+
+-- a plan's two named bands: neither measured width is below them, and where no stretch exceeds them they are the measured widths
+module _ (s : Timed) (ok : Fit s) (red : Stops s) (f : ℕ → ℕ) (v v′ : ℕ) (named : Bands s f v v′) where
+  pub bands-least : (v ≤ width (outboundWay s f)) × (v′ ≤ width (inboundWay s f))
+  bands-least =
+      let c = reference s in
+      (named-least s ok red f c (redEnd s c (f c)) 0 v (named .out), named-least s ok red f c (redStart s c (f c)) v′ v′ (named .back))
+
+  pub bands-measured : NoneLonger s f v v′ → (width (outboundWay s f) ≡ v) × (width (inboundWay s f) ≡ v′)
+  bands-measured (most, most′) =
+      let c = reference s in
+      (named-width s ok red f c (redEnd s c (f c)) 0 v (named .out) most, named-width s ok red f c (redStart s c (f c)) v′ v′ (named .back) most′)

@@ -1,7 +1,7 @@
 pub mod Rounded
+pub mod Moved
 pub mod Exact
 pub mod Rounding
 pub mod Tight
-pub mod Moved
 pub mod Replies
 pub mod Rows

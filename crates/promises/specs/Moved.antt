@@ -26,10 +26,16 @@ abbrev pub MovedClear : Timed → Type 0
 MovedClear s =
     (shift : Shift) → InRange s shift → BandsClear s (movedOffset shift s) (outboundWidth shift s) (inboundWidth shift s)
 
--- where both reported widths are above 0 they are the measured ones
+-- two reported widths are firm where nothing was moved, whatever they are, and else where both are above 0
+abbrev pub Firm : Shift → ℕ → ℕ → Type 0
+Firm Unmoved v v′ = Unit
+Firm (Outbound w) v v′ = (1 ≤ v) × (1 ≤ v′)
+Firm (Inbound w) v v′ = (1 ≤ v) × (1 ≤ v′)
+
+-- firm widths are the measured ones
 abbrev pub MovedMeasured : Timed → Type 0
 MovedMeasured s =
-    (shift : Shift) → InRange s shift → 1 ≤ outboundWidth shift s → 1 ≤ inboundWidth shift s →
+    (shift : Shift) → InRange s shift → Firm shift (outboundWidth shift s) (inboundWidth shift s) →
     (width (outboundWay s (movedOffset shift s)) ≡ outboundWidth shift s)
     × (width (inboundWay s (movedOffset shift s)) ≡ inboundWidth shift s)
 

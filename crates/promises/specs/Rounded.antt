@@ -9,13 +9,12 @@ use lib.IntN.{pos, negℤ, _+ℤ_, _-ℤ_}
 use Rattle.circle.specs.Signed.{leℤ}
 use Rattle.circle.specs.Over.{sumBelow, listBelow}
 use Rattle.circle.specs.Man.{man}
-use Rattle.circle.specs.Method.{Timed, halves, inUnits, t, t′, B, reference, equalWidth, redEnd, redStart}
+use Rattle.circle.specs.Method.{Timed, halves, inUnits, t, t′, B, reference, offset, equalWidth, redEnd, redStart}
 use Rattle.circle.specs.Bands.{Way, clear, width, outboundWay, inboundWay}
 use Rattle.street.specs.Lists.{Lists, signals}
 use Rattle.street.specs.Checks.{planChecks}
 use Rattle.street.specs.Times.{timed, linkTicks}
 use Rattle.street.specs.declared.Verdict.the-variants.{Passed}
-use Rattle.plans.specs.Equal.{equalOffset}
 use Rattle.bands.specs.Measure.{measurementOf, numbersOf}
 
 -- a property of every street that the checks pass
@@ -25,7 +24,8 @@ OnStreets P = (l : Lists) (room : ℕ) → planChecks l room ≡ Passed → P (t
 -- the measured widths under the equal plan's offsets are the reported ones, whatever the sign of B
 abbrev pub Measured : Timed → Type 0
 Measured s =
-    (width (outboundWay s (equalOffset s)) ≡ equalWidth s) × (width (inboundWay s (equalOffset s)) ≡ equalWidth s)
+    let f = offset s (reference s) in
+    (width (outboundWay s f) ≡ equalWidth s) × (width (inboundWay s f) ≡ equalWidth s)
 
 -- no offsets, in whole halves (N = 1) or in a unit of which N make a half, make the smaller of the two widths greater than the reported width
 abbrev pub NoneWider : Timed → Type 0
@@ -66,7 +66,7 @@ BandsClear s f v v′ =
 
 -- so in the equal plan, each as wide as reported
 abbrev pub NamedClear : Timed → Type 0
-NamedClear s = BandsClear s (equalOffset s) (equalWidth s) (equalWidth s)
+NamedClear s = BandsClear s (offset s (reference s)) (equalWidth s) (equalWidth s)
 
 -- the times of the method are document 01's: between signals i and i + k outbound the sum of the link times between them, backwards its negative; and inbound the other way round
 abbrev pub SignedTimes : Type 0
@@ -79,7 +79,7 @@ SignedTimes =
 
 -- the offsets of the equal plan as it writes them
 abbrev pub planOffsets : Lists → List ℕ
-planOffsets l = listBelow (signals l) (equalOffset (timed l))
+planOffsets l = listBelow (signals l) (offset (timed l) (reference (timed l)))
 
 -- `measure` takes the equal plan's own offsets and answers the reported widths
 abbrev pub OwnMeasure : Type 0

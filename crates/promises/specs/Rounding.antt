@@ -8,7 +8,7 @@ use mathlib.Core.List.{List}
 use lib.IntN.{pos, _-ℤ_}
 use lib.ListN.{getD}
 use Rattle.circle.specs.Man.{man}
-use Rattle.circle.specs.Method.{halves, reference, equalWidth, redEnd, redStart}
+use Rattle.circle.specs.Method.{halves, reference, offset, equalWidth, redEnd, redStart}
 use Rattle.circle.specs.Bands.{Way, clear, width}
 use Rattle.circle.specs.Moved.{inRange, outboundLowering, inboundLowering, lowered, otherWidth, platoonWidth}
 use Rattle.street.specs.Lists.{Lists, signals}
@@ -16,14 +16,14 @@ use Rattle.street.specs.Checks.{planChecks}
 use Rattle.street.specs.Times.{linkLength, timed, m}
 use Rattle.street.specs.declared.Verdict.the-variants.{Passed}
 use Rattle.plans.specs.Answers.{numbersOf}
-use Rattle.plans.specs.Equal.{equalOffset, Equal}
 use Rattle.plans.specs.Requests.{Requested}
 use Rattle.plans.specs.Moved.{shiftOf}
 use Rattle.plans.specs.declared.Answer.{Answer}
-use Rattle.plans.specs.declared.widths.Request.{Request}
+use Rattle.plans.specs.declared.Request.{Request}
 use Rattle.plans.specs.declared.widths.Shift.{Shift}
 use Rattle.plans.specs.declared.widths.Shift.the-variants.{Unmoved, Outbound, Inbound}
 use Rattle.promises.specs.Exact.{Fine, exactLink, exactOutbound, exactInbound}
+use Rattle.promises.specs.Moved.{Firm}
 
 -- no offsets, at whatever instants of the unit, make the narrower of the two exact bands wider than v by more than r halves
 abbrev pub NoneBeats : Lists → ℕ → ℕ → ℕ → Type 0
@@ -88,7 +88,9 @@ NoHalvesBeat =
 -- 2. Under the equal plan's offsets each exact band falls short of that width by at most m halves
 abbrev pub FallsShort : Type 0
 FallsShort =
-    OnEveryStreet λ l N. Short l N (equalOffset (timed l)) (equalWidth (timed l)) (equalWidth (timed l)) (m l)
+    OnEveryStreet λ l N.
+    let s = timed l in
+    Short l N (offset s (reference s)) (equalWidth s) (equalWidth s) (m l)
 
 -- the plan for an outbound width w, and the one for an inbound width w
 abbrev pub OutboundClear : Lists → ℕ → ℕ → Type 0
@@ -103,7 +105,7 @@ abbrev pub NamedBandsClear : Type 0
 NamedBandsClear =
     OnEveryStreet λ l N.
     let s = timed l in
-    PlanClear l N (equalOffset s) (equalWidth s) (equalWidth s)
+    PlanClear l N (offset s (reference s)) (equalWidth s) (equalWidth s)
     × ((w : ℕ) → inRange s w ≡ true → OutboundClear l N w × InboundClear l N w)
     × ((L S : ℕ) → S < L → OutboundClear l N (platoonWidth s L (L + S)) × InboundClear l N (platoonWidth s L (L + S)))
 
@@ -112,7 +114,7 @@ abbrev pub EqualExact : Type 0
 EqualExact =
     OnEveryStreet λ l N.
     let s = timed l in
-    m l ≡ 0 → Exactly l N (equalOffset s) (equalWidth s) (equalWidth s) × NoneBeats l N (equalWidth s) 0
+    m l ≡ 0 → Exactly l N (offset s (reference s)) (equalWidth s) (equalWidth s) × NoneBeats l N (equalWidth s) 0
 
 -- and for a width w in range the favoured exact band is w, or more where nothing is left beside it; and no offsets with that band give more the other way than is reported
 abbrev pub MovedExact : Type 0
@@ -131,18 +133,6 @@ MovedExact =
 abbrev pub FineExists : Type 0
 FineExists = (l : Lists) (room : ℕ) → planChecks l room ≡ Passed → (N : ℕ) × Fine l N
 
--- 6. The same of a call: whatever reply of `equal` with code 0, and whatever entries of the lent list, its contract allows, the sentences above hold with the widths, the m, the
--- reference and the instants of that reply's numbers and with the offsets of that list
-abbrev pub ReplyKeeps : Type 0
-ReplyKeeps =
-    (l : Lists) (entry exit : List ℕ) (r : Answer) (N : ℕ) → Equal l entry exit r → numbersOf r .code ≡ 0 → Fine l N →
-    let p = numbersOf r .plan in
-    let f : ℕ → ℕ = λ j. getD exit j 0 in
-    NoneBeats l N (p .outbound) (p .rounded)
-    × Short l N f (p .outbound) (p .inbound) (p .rounded)
-    × NamedClear l N f (p .reference - 1) (p .starts) (p .outbound) (p .ends) (p .inbound) (p .rounded)
-    × (p .rounded ≡ 0 → Exactly l N f (p .outbound) (p .inbound))
-
 -- no offsets do better than a plan of these widths, by what was moved in it: where nothing was, none makes the narrower band wider by more than r halves; else, where r is 0, none with the
 -- favoured band gives more beside it
 abbrev pub NoneBetter : Shift → Lists → ℕ → ℕ → ℕ → ℕ → Type 0
@@ -152,13 +142,15 @@ NoneBetter (Outbound w) l N v v′ r =
 NoneBetter (Inbound w) l N v v′ r =
     r ≡ 0 → (f : ℕ → ℕ) → N * v′ ≤ width (exactInbound l N f) → width (exactOutbound l N f) ≤ N * v
 
--- and of a call with a request, for a width or for two platoons: of the numbers in its reply and the offsets that it leaves, what holds of every plan
-abbrev pub RequestKeeps : Type 0
-RequestKeeps =
+-- 6. The same of a call: for every request, whatever reply with code 0, and whatever entries of the lent list, its contract allows, the sentences above hold with the widths, the m, the
+-- reference and the instants of that reply's numbers and with the offsets of that list; where no time was rounded its firm widths are the exact bands'
+abbrev pub ReplyKeeps : Type 0
+ReplyKeeps =
     (request : Request) (l : Lists) (entry exit : List ℕ) (r : Answer) (N : ℕ) → Requested request l entry exit r → numbersOf r .code ≡ 0 → Fine l N →
+    let shift = shiftOf request (timed l) in
     let p = numbersOf r .plan in
     let f : ℕ → ℕ = λ j. getD exit j 0 in
     Short l N f (p .outbound) (p .inbound) (p .rounded)
     × NamedClear l N f (p .reference - 1) (p .starts) (p .outbound) (p .ends) (p .inbound) (p .rounded)
-    × NoneBetter (shiftOf request (timed l)) l N (p .outbound) (p .inbound) (p .rounded)
-    × (p .rounded ≡ 0 → 1 ≤ p .outbound → 1 ≤ p .inbound → Exactly l N f (p .outbound) (p .inbound))
+    × NoneBetter shift l N (p .outbound) (p .inbound) (p .rounded)
+    × (p .rounded ≡ 0 → Firm shift (p .outbound) (p .inbound) → Exactly l N f (p .outbound) (p .inbound))

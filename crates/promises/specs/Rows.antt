@@ -11,9 +11,8 @@ use Rattle.street.specs.declared.Code.{Code}
 use Rattle.street.specs.declared.Code.the-variants.{Platoon, Width}
 use Rattle.plans.specs.declared.Answer.{Answer}
 use Rattle.plans.specs.declared.Answer.the-variants.{Planned, Refused}
-use Rattle.plans.specs.declared.widths.Request.{Request}
-use Rattle.plans.specs.declared.widths.Request.the-variants.{Equal, Outbound, Inbound, Platoons}
-use Rattle.plans.specs.Equal.{equalAnswer, equalAfter}
+use Rattle.plans.specs.declared.Request.{Request}
+use Rattle.plans.specs.declared.Request.the-variants.{Equal, Outbound, Inbound, Platoons}
 use Rattle.plans.specs.Requests.{requestAnswer, requestAfter}
 use Rattle.promises.specs.Exact.{Fine, exactOutbound, exactInbound}
 use Rattle.promises.specs.Rounding.{NoneBeats}
@@ -41,23 +40,11 @@ pub record Row : Type 0 where
 unfoldable pub lent : List ℕ
 lent = 7 ∷ 7 ∷ 7 ∷ []
 
--- what each call's contract says of its reply, and of the lent list
-unfoldable pub reply : Request → Lists → Answer
-reply Equal l = equalAnswer l (length lent)
-reply (Outbound w) l = requestAnswer (Outbound w) l (length lent)
-reply (Inbound w) l = requestAnswer (Inbound w) l (length lent)
-reply (Platoons P Q) l = requestAnswer (Platoons P Q) l (length lent)
-
-unfoldable pub after : Request → Lists → List ℕ
-after Equal l = equalAfter l lent
-after (Outbound w) l = requestAfter (Outbound w) l lent
-after (Inbound w) l = requestAfter (Inbound w) l lent
-after (Platoons P Q) l = requestAfter (Platoons P Q) l lent
-
+-- what the contract says of the reply, and of the lent list
 unfoldable pub Holds : Row → Type 0
 Holds row =
-    (reply (row .request) (row .street) ≡ row .expected)
-    × (after (row .request) (row .street) ≡ row .offsets)
+    (requestAnswer (row .request) (row .street) (length lent) ≡ row .expected)
+    × (requestAfter (row .request) (row .street) lent ≡ row .offsets)
     × ExactBest (row .street) (row .best)
 
 unfoldable pub All : List Row → Type 0

@@ -5,13 +5,12 @@ use mathlib.Core.Bool.{false}
 use mathlib.Core.List.{[], _∷_}
 use lib.IntN.{pos, _-ℤ_}
 use Rattle.circle.specs.Man.{man}
-use Rattle.circle.specs.Method.{halves, B, reference, equalWidth, redEnd, redStart}
+use Rattle.circle.specs.Method.{halves, B, reference, offset, equalWidth, redEnd, redStart}
 use Rattle.circle.specs.Bands.{Way, clear, width}
 use Rattle.street.specs.Lists.{Lists}
 use Rattle.street.specs.Checks.{planChecks}
 use Rattle.street.specs.Times.{timed, m}
 use Rattle.street.specs.declared.Verdict.the-variants.{Passed}
-use Rattle.plans.specs.Equal.{equalOffset}
 use Rattle.promises.specs.Exact.{Fine, exactOutbound, exactInbound}
 use Rattle.promises.specs.Rounding.{NoneBeats, after}
 
@@ -49,8 +48,8 @@ abbrev pub ShortByM : Type 0
 ShortByM =
     Rounded narrow 1
     × (equalWidth (timed narrow) ≡ 18)
-    × (width (exactOutbound narrow 1 (λ j. 1 * equalOffset (timed narrow) j)) + m narrow ≡ 18)
-    × (width (exactInbound narrow 1 (λ j. 1 * equalOffset (timed narrow) j)) + m narrow ≡ 18)
+    × (width (exactOutbound narrow 1 (λ j. 1 * offset (timed narrow) (reference (timed narrow)) j)) + m narrow ≡ 18)
+    × (width (exactInbound narrow 1 (λ j. 1 * offset (timed narrow) (reference (timed narrow)) j)) + m narrow ≡ 18)
 
 -- 3. A departure that is one unit less than m halves after the start of a named band, or m halves before its end and not more, may meet a red
 abbrev pub RedAtStart : Way → ℕ → ℕ → ℕ → ℕ → ℕ → Type 0
@@ -61,18 +60,18 @@ RedAtEnd w N c start v r x = (after w N c start x + N * r ≡ N * v) × (clear w
 
 -- the equal plan of a street at exact times in hundredths of a half, and where its named bands start at c
 abbrev pub planOut : Lists → Way
-planOut l = exactOutbound l 100 (λ j. 100 * equalOffset (timed l) j)
+planOut l = exactOutbound l 100 (λ j. 100 * offset (timed l) (reference (timed l)) j)
 
 abbrev pub planIn : Lists → Way
-planIn l = exactInbound l 100 (λ j. 100 * equalOffset (timed l) j)
+planIn l = exactInbound l 100 (λ j. 100 * offset (timed l) (reference (timed l)) j)
 
 abbrev pub outStart : Lists → ℕ
-outStart l = let c = reference (timed l) in redEnd (timed l) c (equalOffset (timed l) c)
+outStart l = let c = reference (timed l) in redEnd (timed l) c (offset (timed l) c c)
 
 abbrev pub inStart : Lists → ℕ
 inStart l =
     let c = reference (timed l) in
-    man (halves (timed l)) (pos (redStart (timed l) c (equalOffset (timed l) c)) -ℤ pos (equalWidth (timed l)))
+    man (halves (timed l)) (pos (redStart (timed l) c (offset (timed l) c c)) -ℤ pos (equalWidth (timed l)))
 
 -- the street of 2 does so at the outbound start and the inbound end, and this one at the inbound start and the outbound end
 abbrev pub other : Lists

@@ -21,12 +21,13 @@ pub fn reduced(s: Street) -> [u32; Street::MAX_SIGNALS]
     requires { ⌜ Sound s ⌝ }
     ensures { λ r. ⌜ Reduced (timedStreet s) r ⌝ }
 {
-    let n = s.signals;
+    let road = s.road;
+    let n = road.signals;
     let h = 2 * s.cycle;
     let mut x = [0u32; Street::MAX_SIGNALS];
     let mut k: usize = 0;
     while k < n {
-        x[k] = circle::remainder(h, s.reds[k], s.outbound[k] + s.inbound[k]);
+        x[k] = circle::remainder(h, s.reds[k], road.outbound[k] + road.inbound[k]);
         k += 1;
     }
     x
@@ -83,7 +84,7 @@ pub fn reference(s: Street, x: [u32; Street::MAX_SIGNALS]) -> Candidate
     requires { ⌜ Sound s × Reduced (timedStreet s) x ⌝ }
     ensures { λ r. ⌜ Searched (timedStreet s) r ⌝ }
 {
-    let n = s.signals;
+    let n = s.road.signals;
     let cycle = s.cycle;
     let reds = s.reds;
     let mut widths = [[[0u32; 2]; Street::MAX_SIGNALS]; Street::MAX_SIGNALS];
@@ -95,7 +96,7 @@ pub fn reference(s: Street, x: [u32; Street::MAX_SIGNALS]) -> Candidate
     let mut signal: usize = 0;
     let mut raised = least(&widths[0], n);
     let mut k: usize = 1;
-    while k < s.signals {
+    while k < n {
         let candidate = least(&widths[k], n);
         if raised < candidate {
             raised = candidate;

@@ -1,4 +1,4 @@
--- `plans::planned` meets its contract: a refusal by the verdict of the plan's checks or of the request's; a plan by what the search, the shift, the offsets and the numbers
+-- `plans::plan_for` meets its contract: a refusal by the verdict of the plan's checks or of the request's; a plan by what the search, the shift, the offsets and the numbers
 -- ensure of the street that passed, carried over to the typed lists. Assumes nothing.
 use mathlib.Core.Path.{_≡_, sym, subst, _∙_}
 use Prim.Native.Nat.{ℕ, _≤_, _<_}
@@ -16,8 +16,8 @@ use Rattle.plans.specs.Steps.{Ready, shiftWidth}
 use Rattle.plans.proofs.OffsetLaws.{ready-lt, own-written}
 use Rattle.plans.proofs.RequestLaws.{shift-small, passed-room, requested-refused, asked-refused, requested-planned}
 use borrow.Author.Needs.{needs}
-use Rattle.plans.proofs.planned.Statement.{statement}
-use Rattle.plans.proofs.planned.Tie as tie
+use Rattle.plans.proofs.plan_for.Statement.{statement}
+use Rattle.plans.proofs.plan_for.Tie as tie
 
 -- the lists as they were typed, and the lent list
 abbrev lists : tie.Start → Lists
@@ -139,8 +139,8 @@ returns-3 c =
     let wrote = c .before .before .before .before .write in
     requested-planned (c0 .args .request) (lists c0) (lent c0) (wrote .last .1 .1 .1 .1 .1 .0) (survey s .street) (shift .result) (c .numbers .result) (passed s) (street-is s) (asked-passed asked) (shift .ensures) (wrote .ensures) (c .numbers .ensures)
 
-pub planned-spec : {M : Type 1} → statement M
-planned-spec =
+pub plan-for-spec : {M : Type 1} → statement M
+plan-for-spec =
     tie.close
     (tie.spec
     new-requires
