@@ -83,15 +83,15 @@ row-set P widths i row q l here other = go (ℕ-discrete q i)
     go (no n) = subst (P q) (sym (getD-set-other widths i q row [] n)) (other n)
 
 pub fit-sound : (s : Street) → Sound s → Fit (timedStreet s)
-fit-sound s ok = record { some = ok .some; turns = omega (arith, ok .shortest); goes = ok .goes }
+fit-sound s ok = record { some = ok .road .some; turns = omega (arith, ok .shortest); goes = ok .goes }
 
 -- a sound street's places lie on the cycle
-pub turning : (s : Street) (x : List ℕ) → Sound s → Reduced (timedStreet s) x → Turning (s .cycle) (s .signals) (s .reds) x
+pub turning : (s : Street) (x : List ℕ) → Sound s → Reduced (timedStreet s) x → Turning (s .cycle) (s .road .signals) (s .reds) x
 turning s x ok places =
     record { goes = ok .goes; on = λ k l. place-lt (timedStreet s) x k places l (omega (arith, ok .shortest)) }
 
 -- and the least of its row is a candidate's b(i)
-pub candidate-is : (s : Street) (x : List ℕ) (i : ℕ) (row : List (List ℕ)) (r : ℕ) → Sound s → Reduced (timedStreet s) x → i < s .signals → Row (s .cycle) (s .signals) (s .reds) x i row → pos r ≡ leastBelow (s .signals) (wider row) → r ≡ b⁺ (timedStreet s) i
+pub candidate-is : (s : Street) (x : List ℕ) (i : ℕ) (row : List (List ℕ)) (r : ℕ) → Sound s → Reduced (timedStreet s) x → i < s .road .signals → Row (s .cycle) (s .road .signals) (s .reds) x i row → pos r ≡ leastBelow (s .road .signals) (wider row) → r ≡ b⁺ (timedStreet s) i
 candidate-is s x i row r ok places l filled e =
     let turns : 0 < s .cycle = omega (arith, ok .shortest) in
     least-is (timedStreet s) (fit-sound s ok) i row r

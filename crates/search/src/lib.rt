@@ -96,7 +96,7 @@ pub fn reference(s: Street, x: [u32; Street::MAX_SIGNALS]) -> Candidate
     let mut signal: usize = 0;
     let mut raised = least(&widths[0], n);
     let mut k: usize = 1;
-    while k < n {
+    while k < s.road.signals {
         let candidate = least(&widths[k], n);
         if raised < candidate {
             raised = candidate;

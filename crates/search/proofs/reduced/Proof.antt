@@ -14,10 +14,10 @@ use Rattle.search.proofs.reduced.Statement.{statement}
 use Rattle.search.proofs.reduced.Tie as tie
 
 abbrev Inv-loop : tie.InvT-loop
-Inv-loop s n h x₀ k₀ x k = (k ≤ s .signals) × (x ≡ listBelow k (place (timedStreet s)) ++ drop k (replicate maxSignals 0))
+Inv-loop s road n h x₀ k₀ x k = (k ≤ s .road .signals) × (x ≡ listBelow k (place (timedStreet s)) ++ drop k (replicate maxSignals 0))
 
 abbrev μ-loop : tie.MeasureT-loop
-μ-loop s n h x₀ k₀ x k = s .signals - k
+μ-loop s road n h x₀ k₀ x k = s .road .signals - k
 
 mul-h : tie.Need-mul-h Inv-loop μ-loop
 mul-h c = search needs
@@ -45,10 +45,14 @@ element-copy-out-remainder-3 : tie.Need-element-copy-out-remainder-3 Inv-loop μ
 element-copy-out-remainder-3 c = search needs
 
 add-remainder : tie.Need-add-remainder Inv-loop μ-loop
-add-remainder c = omega (arith, c .before .before .before .before .before .pre .out (c .before .before .before .before .loop .k) (omega arith), c .before .before .before .before .before .pre .back (c .before .before .before .before .loop .k) (omega arith))
+add-remainder c =
+    let ok = c .before .before .before .before .before .before .pre in
+    let k = c .before .before .before .before .loop .k in
+    omega (arith, ok .road .out k (omega arith), ok .road .back k (omega arith))
 
 remainder-requires : tie.Need-remainder-requires Inv-loop μ-loop
-remainder-requires c κs = omega (arith, c .before .before .before .before .before .pre .goes (c .before .before .before .before .loop .k) (omega arith), c .before .before .before .before .before .pre .shortest, c .before .before .before .before .before .pre .longest)
+remainder-requires c κs =
+    let ok = c .before .before .before .before .before .before .pre in omega (arith, ok .goes (c .before .before .before .before .loop .k) (omega arith), ok .shortest, ok .longest)
 
 mul-x : tie.Need-mul-x Inv-loop μ-loop
 mul-x c = search needs
@@ -63,10 +67,18 @@ loop-less : tie.Need-loop-less Inv-loop μ-loop
 loop-less c = search needs
 
 loop-again : tie.Need-loop-again Inv-loop μ-loop
-loop-again c = (omega arith, fill-store (replicate maxSignals 0) (c .before .before .before .before .before .loop .x) (place (timedStreet (c .before .before .before .before .before .before .args .t1))) (c .before .before .before .before .before .loop .k) (c .remainder .result) 0 (omega (arith, c .before .before .before .before .before .before .pre .few)) (c .before .before .before .before .before .loop .inv .1) (c .remainder .ensures))
+loop-again c =
+    let c0 = c .before .before .before .before .before .before .before in
+    let loop = c .before .before .before .before .before .loop in (
+      omega arith,
+      fill-store (replicate maxSignals 0) (loop .x) (place (timedStreet (c0 .args .t1))) (loop .k) (c .remainder .result) 0 (omega (arith, c0 .pre .road .few)) (loop .inv .1) (c .remainder .ensures),
+    )
 
 returns : tie.Need-returns Inv-loop μ-loop
-returns c = record { each = λ k l. ap (λ x. getD x k 0) (c .before .loop .inv .1) ∙ getD-listBelow (c .before .loop .k) (place (timedStreet (c .before .before .args .t1))) _ k 0 (omega arith) }
+returns c =
+    let s = timedStreet (c .before .before .before .args .t1) in
+    let loop = c .before .loop in
+    record { each = λ k l. ap (λ x. getD x k 0) (loop .inv .1) ∙ getD-listBelow (loop .k) (place s) _ k 0 (omega arith) }
 
 pub reduced-spec : {M : Type 1} → statement M
 reduced-spec =

@@ -17,16 +17,16 @@ use Rattle.search.proofs.reference.Statement.{statement}
 use Rattle.search.proofs.reference.Tie as tie
 
 abbrev Inv-loop : tie.InvT-loop
-Inv-loop s x n cycle reds widths₀ i₀ widths i = (i ≤ s .signals) × (length widths ≡ maxSignals) × ((q : ℕ) → q < maxSignals → length (getD widths q []) ≡ maxSignals) × ((q : ℕ) → q < i → Row (s .cycle) (s .signals) (s .reds) x q (getD widths q []))
+Inv-loop s x n cycle reds widths₀ i₀ widths i = (i ≤ s .road .signals) × (length widths ≡ maxSignals) × ((q : ℕ) → q < maxSignals → length (getD widths q []) ≡ maxSignals) × ((q : ℕ) → q < i → Row (s .cycle) (s .road .signals) (s .reds) x q (getD widths q []))
 
 abbrev μ-loop : tie.MeasureT-loop
-μ-loop s x n cycle reds widths₀ i₀ widths i = s .signals - i
+μ-loop s x n cycle reds widths₀ i₀ widths i = s .road .signals - i
 
 abbrev Inv-loop2 : tie.InvT-loop2
-Inv-loop2 s n cycle widths i signal₀ raised₀ k₀ signal raised k = (1 ≤ k) × (k ≤ s .signals) × Leading (b⁺ (timedStreet s)) k signal raised
+Inv-loop2 s n cycle widths i signal₀ raised₀ k₀ signal raised k = (1 ≤ k) × (k ≤ s .road .signals) × Leading (b⁺ (timedStreet s)) k signal raised
 
 abbrev μ-loop2 : tie.MeasureT-loop2
-μ-loop2 s n cycle widths i signal₀ raised₀ k₀ signal raised k = s .signals - k
+μ-loop2 s n cycle widths i signal₀ raised₀ k₀ signal raised k = s .road .signals - k
 
 loop-holds : tie.Need-loop-holds Inv-loop μ-loop Inv-loop2 μ-loop2
 loop-holds c = (search needs, refl, λ q l. ap length (getD-replicate maxSignals q (replicate maxSignals (replicate 2 0)) [] l), below-none _)
@@ -42,8 +42,8 @@ fill-requires c κs =
     let c0 = c .before .before .before .before .before .before in
     let loop = c .before .before .before .before .loop in
     let ok = c0 .pre .0 in
-    let in-row : loop .i < maxSignals = omega (arith, ok .few) in
-    (omega (arith, ok .shortest), ok .longest, ok .few, omega arith, turning (c0 .args .s) (c0 .args .t2) ok (c0 .pre .1), omega (arith, ok .few, loop .inv .2 (loop .i) in-row))
+    let in-row : loop .i < maxSignals = omega (arith, ok .road .few) in
+    (omega (arith, ok .shortest), ok .longest, ok .road .few, omega arith, turning (c0 .args .s) (c0 .args .t2) ok (c0 .pre .1), omega (arith, ok .road .few, loop .inv .2 (loop .i) in-row))
 
 add-i : tie.Need-add-i Inv-loop μ-loop Inv-loop2 μ-loop2
 add-i c = search needs
@@ -57,14 +57,14 @@ loop-again c =
     let loop = c .before .before .before .before .before .loop in
     let s = c0 .args .s in
     let i = loop .i in
-    let in-table : i < length (loop .widths) = omega (arith, loop .inv .1, c0 .pre .0 .few) in
-    let in-row : i < maxSignals = omega (arith, c0 .pre .0 .few) in (
+    let in-table : i < length (loop .widths) = omega (arith, loop .inv .1, c0 .pre .0 .road .few) in
+    let in-row : i < maxSignals = omega (arith, c0 .pre .0 .road .few) in (
       omega arith,
       simp length-set (loop .inv .1),
       λ q l.
           row-set (λ k row. length row ≡ maxSignals) (loop .widths) i _ q in-table (c .fill .ensures .1 ∙ loop .inv .2 i in-row) (λ n. loop .inv .2 q l),
       λ q l.
-          row-set (Row (s .cycle) (s .signals) (s .reds) (c0 .args .t2)) (loop .widths) i _ q in-table (c .fill .ensures .0) (λ n. loop .inv .3 q (omega (arith, n))),
+          row-set (Row (s .cycle) (s .road .signals) (s .reds) (c0 .args .t2)) (loop .widths) i _ q in-table (c .fill .ensures .0) (λ n. loop .inv .3 q (omega (arith, n))),
     )
 
 index-1-least : tie.Need-index-1-least Inv-loop μ-loop Inv-loop2 μ-loop2
@@ -79,8 +79,8 @@ loop2-holds c =
     let rows = c .before .before .before .loop in
     let ok = c0 .pre .0 in
     let s = c0 .args .s in
-    let first : 0 < s .signals = omega (arith, ok .some) in
-    (search needs, ok .some, leads-first _ _ (candidate-is s (c0 .args .t2) 0 (getD (rows .widths) 0 []) (c .least .result) ok (c0 .pre .1) first (rows .inv .3 0 (omega arith)) (c .least .ensures)))
+    let first : 0 < s .road .signals = omega (arith, ok .road .some) in
+    (search needs, ok .road .some, leads-first _ _ (candidate-is s (c0 .args .t2) 0 (getD (rows .widths) 0 []) (c .least .result) ok (c0 .pre .1) first (rows .inv .3 0 (omega arith)) (c .least .ensures)))
 
 mul-least : tie.Need-mul-least Inv-loop μ-loop Inv-loop2 μ-loop2
 mul-least c = search needs
@@ -122,7 +122,7 @@ returns : tie.Need-returns Inv-loop μ-loop Inv-loop2 μ-loop2
 returns c =
     let c0 = c .before .before .before .before .before .before .before .before in
     let loop = c .before .before .loop2 in
-    let all : loop .k ≡ c0 .args .s .signals = omega arith in
+    let all : loop .k ≡ c0 .args .s .road .signals = omega arith in
     settled (timedStreet (c0 .args .s)) (fit-sound (c0 .args .s) (c0 .pre .0)) (loop .k) (loop .signal) (loop .raised) all (loop .inv .2)
 
 pub reference-spec : {M : Type 1} → statement M
