@@ -14,6 +14,7 @@ use Rattle.circle.specs.Method.{Timed, reference, redEnd, redStart}
 use Rattle.circle.specs.Moved.{g, platoonWidth}
 use Rattle.circle.proofs.Over.{list-ext, length-listBelow}
 use Rattle.circle.proofs.Method.{Agree, B-agree, reference-agree, equalWidth-agree, redEnd-agree, redStart-agree, reference-lt}
+use Rattle.circle.proofs.Platoons.{platoon-le}
 use Rattle.circle.proofs.AgreeMoved.{inRange-agree, otherWidth-agree, platoonWidth-agree, outboundLowering-agree, inboundLowering-agree, lowered-agree}
 use Rattle.street.specs.Limits.{maxPlatoon}
 use Rattle.street.specs.Lists.{Lists, signals}
@@ -39,7 +40,7 @@ use Rattle.plans.specs.declared.widths.Request.the-variants as request
 use Rattle.plans.specs.declared.widths.Shift.{Shift}
 use Rattle.plans.specs.declared.widths.Shift.the-variants.{Unmoved, Outbound, Inbound}
 use Rattle.search.proofs.Leading.{fit-sound}
-use Rattle.plans.proofs.WidthLaws.{widest-le, range-le, platoon-le}
+use Rattle.plans.proofs.WidthLaws.{widest-le, range-le}
 
 -- platoons that passed are short enough
 short-enough : (place P : ℕ) → lengthCheck place P ≡ verdict.Passed → P ≤ maxPlatoon

@@ -7,9 +7,9 @@ use lib.ListN.{getD}
 use Rattle.circle.specs.Signed.{minℤ}
 use Rattle.circle.specs.Over.{leastBelow}
 use Rattle.circle.specs.Moved.{g}
+use Rattle.circle.proofs.Signed.{pos-less, pos-min}
 use Rattle.circle.proofs.Over.{least-more}
 use Rattle.street.specs.declared.Street.{Street}
-use Rattle.plans.proofs.WidthLaws.{green}
 use borrow.Author.Needs.{needs}
 use Rattle.plans.proofs.widths.widest.Statement.{statement}
 use Rattle.plans.proofs.widths.widest.Tie as tie
@@ -39,7 +39,7 @@ loop-holds : tie.Need-loop-holds Inv-loop μ-loop
 unfolding leastBelow
 loop-holds c =
     let s = c .before .args .t1 in
-    (omega arith, c .before .pre .some, green (2 * s .cycle) (2 * getD (s .reds) 0 0) (omega (arith, c .before .pre .goes 0 (c .before .pre .some))))
+    (omega arith, c .before .pre .some, pos-less (2 * s .cycle) (2 * getD (s .reds) 0 0) (omega (arith, c .before .pre .goes 0 (c .before .pre .some))))
 
 mul-smaller : tie.Need-mul-smaller Inv-loop μ-loop
 mul-smaller c = omega (arith, c .before .before .before .pre .few)
@@ -70,8 +70,10 @@ loop-again : tie.Need-loop-again Inv-loop μ-loop
 loop-again c =
     let c0 = c .before .before .before .before .before in
     let s = c0 .args .t1 in
-    let j = c .before .before .before .loop .j in
-    (omega arith, omega arith, c .smaller .ensures ∙ ap₂ minℤ (c .before .before .before .loop .inv .2) (green (2 * s .cycle) (2 * getD (s .reds) j 0) (omega (arith, c0 .pre .goes j (c .before .before .loop-test .taken)))) ∙ sym (least-more j (open-at s) (c .before .before .before .loop .inv .0)))
+    let loop = c .before .before .before .loop in
+    let red = 2 * getD (s .reds) (loop .j) 0 in
+    let here = pos-less (2 * s .cycle) red (omega (arith, c0 .pre .goes (loop .j) (c .before .before .loop-test .taken))) in
+    (omega arith, omega arith, ap pos (c .smaller .ensures) ∙ pos-min (loop .low) (2 * s .cycle - red) ∙ ap₂ minℤ (loop .inv .2) here ∙ sym (least-more (loop .j) (open-at s) (loop .inv .0)))
 
 returns : tie.Need-returns Inv-loop μ-loop
 unfolding g
