@@ -1,5 +1,4 @@
 pub mod Signed
-pub mod Choices
 pub mod Man
 pub mod Over
 pub mod Method

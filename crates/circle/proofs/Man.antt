@@ -58,7 +58,7 @@ man-turns H a b h =
     record { p = c .p; q = c .q; eq = omega (arith, c .eq, ap (man H) (pos-minus a b)) }
 
 -- two differences in a row as one
-minus-minus : (a b e : ℕ) → pos a -ℤ pos b -ℤ pos e ≡ pos a -ℤ pos (b + e)
+pub minus-minus : (a b e : ℕ) → pos a -ℤ pos b -ℤ pos e ≡ pos a -ℤ pos (b + e)
 minus-minus a b e =
     ap₂ (λ x y. x -ℤ y) (pos-minus a b) (pos-sub e)
     ∙ minus-sub a b e 0

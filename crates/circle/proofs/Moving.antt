@@ -1,5 +1,5 @@
 -- A request to move width, in plain numbers. Raised by the cycle B is a natural, and g is one as it stands; so a width in range is 1 or more, reaches B and leaves room for
--- each signal's red, and the lowerings and what is left for the other direction are truncated differences. A signal never leaves less than B beside its red, so B is at
+-- each signal's red, and no other width is in range; and the lowerings and what is left for the other direction are truncated differences. A signal never leaves less than B beside its red, so B is at
 -- most g; the reference's own u is the cycle, so an inbound request leaves it in place and an outbound one lowers it by w - B. Assumes nothing.
 use Prim.Native.Nat.{ℕ, _+_, _-_, _*_, _≤_, _<_, max}
 use mathlib.Core.Path.{_≡_, refl, sym, ap, ap₂, _∙_}
@@ -11,9 +11,9 @@ use borrow.Author.Tests.{le-leb, leb-true}
 use Rattle.circle.specs.Signed.{leℤ, maxℤ, orZero}
 use Rattle.circle.specs.Method.{Timed, halves, B, reference, phase, offset, equalWidth}
 use Rattle.circle.specs.Moved.{g, inRange, chosen, outboundLowering, inboundLowering, lowered, otherWidth}
-use Rattle.circle.proofs.Signed.{sub-eq, pos-sub, pos-minus, add-sub, minus-sub, le-sub, max-sub, orZero-sub}
+use Rattle.circle.proofs.Signed.{sub-eq, pos-sub, pos-minus, pos-less, add-sub, minus-sub, sub-injective, le-sub, max-sub, orZero-sub}
 use Rattle.circle.proofs.Man.{Turns, man-turns}
-use Rattle.circle.proofs.Over.{minBelow, maxBelow, min-at, min-from, least-raised}
+use Rattle.circle.proofs.Over.{minBelow, maxBelow, min-le, min-at, min-from, least-raised}
 use Rattle.circle.proofs.Method.{u-is, u-range}
 use Rattle.circle.proofs.Raised.{Fit, b⁺, B-raised, low}
 use Rattle.circle.proofs.Reference.{reference-first, u-turns, leaves, phase-own}
@@ -71,8 +71,18 @@ module _ (s : Timed) (fit : Fit s) where
   green-from w fits =
       min-from (halves s) (s .signals) (λ j. halves s - 2 * s .red j) w (omega (arith, fits 0 (fit .some))) (λ j l. omega (arith, fits j l))
 
+  pub green-le : green s ≤ halves s
+  green-le = min-le (halves s) (s .signals) (λ j. halves s - 2 * s .red j)
+
+  pub asked-green : (w : ℕ) → Asked s w → w ≤ green s
+  asked-green w a = green-from w (a .fits)
+
   pub green-some : 1 ≤ green s
   green-some = green-from 1 (λ j l. omega (arith, fit .goes j l))
+
+  -- the one natural that is B once the cycle is taken from it
+  pub B⁺-is : (r : ℕ) → pos r -ℤ pos (halves s) ≡ B s → r ≡ B⁺ s
+  B⁺-is r e = sub-injective r (B⁺ s) (halves s) (sym (pos-minus r (halves s)) ∙ e ∙ B-raised s fit)
 
   -- B is at most g
   pub B-fits : (j : ℕ) → j < s .signals → B⁺ s + 2 * s .red j ≤ 2 * halves s
@@ -91,10 +101,11 @@ module _ (s : Timed) (fit : Fit s) where
       (λ j. halves s - 2 * s .red j)
       (fit .some)
       (λ j l. omega arith)
-      (λ j l.
-      pos-minus (halves s) (2 * s .red j)
-      ∙ sub-eq (halves s) (2 * s .red j) (halves s - 2 * s .red j) 0 (omega (arith, low s fit j l)))
+      (λ j l. sym (pos-less (halves s) (2 * s .red j) (low s fit j l)) ∙ pos-sub (halves s - 2 * s .red j))
       ∙ sym (pos-sub (green s))
+
+  pub green-is : (r : ℕ) → pos r ≡ g s → r ≡ green s
+  green-is r e = ap orZero (e ∙ g-is)
 
   -- the test of a request
   tested : (w : ℕ) → inRange s w ≡ cond (leb (max (1 + halves s) (B⁺ s)) (w + halves s)) (leb w (green s)) false
@@ -121,6 +132,13 @@ module _ (s : Timed) (fit : Fit s) where
   within w some reaches fits =
       let l : max (1 + halves s) (B⁺ s) ≤ w + halves s = omega arith in
       tested w ∙ ap₂ (λ p q. cond p q false) (le-leb (max (1 + halves s) (B⁺ s)) (w + halves s) l) (le-leb w (green s) fits)
+
+  pub outside : (w : ℕ) → (Asked s w → ⊥) → inRange s w ≡ false
+  outside w none = go (inRange s w) refl
+    where
+      go : (t : Bool) → inRange s w ≡ t → t ≡ false
+      go true e = absurd (none (asked w e))
+      go false e = refl
 
   -- the lowerings and the other direction's width
   pub outbound-lowering : (w j : ℕ) → outboundLowering s w j ≡ chosen s j + w - B⁺ s

@@ -3,11 +3,11 @@
 -- sum above 2B. And where B is 0 or less nothing is left for the other side, so the larger one gets g. Assumes nothing.
 use Prim.Native.Nat.{ℕ, _+_, _-_, _*_, _/_, _≤_, _<_, min}
 use mathlib.Core.Path.{_≡_, sym, ap, ap₂, _∙_}
-use mathlib.Core.Bool.{true, cond}
+use mathlib.Core.Bool.{Bool, true, false, cond}
 use native.Mathlib.Omega.{arith}
-use native.Mathlib.Decide.{decLe, ℕ-discrete}
+use native.Mathlib.Decide.{decLe}
 use native.Mathlib.Nat.{mul-le-mul-left, le-div-iff-mul-le}
-use lib.IntN.{pos}
+use lib.IntN.{pos, _+ℤ_}
 use lib.Dec.{leb, eqb}
 use borrow.Author.Tests.{le-leb, lt-leb, leb-true, eq-eqb, ne-eqb}
 use Rattle.circle.specs.Signed.{leℤ, orZero}
@@ -41,7 +41,26 @@ module _ (s : Timed) (fit : Fit s) where
 
   -- where the platoons do not both fit
   past : (L T : ℕ) → 2 * B⁺ s < T + 2 * halves s → platoonWidth s L T ≡ beyond s L (green s)
-  past L T more = rule L T ∙ ap (λ p. cond p (min ((2 * B⁺ s - 2 * halves s) * L / T) (green s)) (beyond s L (green s))) (lt-leb (T + 2 * halves s) (2 * B⁺ s) more)
+  past L T more =
+      rule L T
+      ∙ ap (λ p. cond p (min ((2 * B⁺ s - 2 * halves s) * L / T) (green s)) (beyond s L (green s))) (lt-leb (T + 2 * halves s) (2 * B⁺ s) more)
+
+  -- the rule's three cases: the platoons fit into 2B; they do not, and nothing would be left for the other side; they do not, and something is
+  pub platoons-fit : (L T : ℕ) → T + 2 * halves s ≤ 2 * B⁺ s → platoonWidth s L T ≡ min ((2 * B⁺ s - 2 * halves s) * L / T) (green s)
+  platoons-fit L T fits =
+      rule L T
+      ∙ ap (λ p. cond p (min ((2 * B⁺ s - 2 * halves s) * L / T) (green s)) (beyond s L (green s))) (le-leb (T + 2 * halves s) (2 * B⁺ s) fits)
+
+  pub platoons-crowd : (L T : ℕ) → 2 * B⁺ s < T + 2 * halves s → 2 * B⁺ s ≤ 2 * halves s + min L (green s) → platoonWidth s L T ≡ green s
+  platoons-crowd L T more none =
+      let nothing : otherWidth s (min L (green s)) ≡ 0 = omega (arith, other-width s fit (min L (green s))) in
+      past L T more ∙ ap (λ p. cond p (green s) (min L (green s))) (eq-eqb (otherWidth s (min L (green s))) 0 nothing)
+
+  pub platoons-rest : (L T : ℕ) → 2 * B⁺ s < T + 2 * halves s → 2 * halves s + min L (green s) < 2 * B⁺ s → platoonWidth s L T ≡ min L (green s)
+  platoons-rest L T more some =
+      past L T more
+      ∙ ap (λ p. cond p (green s) (min L (green s)))
+      (ne-eqb (otherWidth s (min L (green s))) 0 (λ e. omega (arith, e, other-width s fit (min L (green s)))))
 
   -- g is in range
   green-range : inRange s (green s) ≡ true
@@ -49,32 +68,33 @@ module _ (s : Timed) (fit : Fit s) where
 
   -- the rule's width, for a larger platoon L of a sum T of two that differ
   pub platoons-range : (L T : ℕ) → L ≤ T → T < 2 * L → inRange s (platoonWidth s L T) ≡ true
-  platoons-range L T part larger = go (decLe (T + 2 * halves s) (2 * B⁺ s))
+  platoons-range L T part larger =
+      go (decLe (T + 2 * halves s) (2 * B⁺ s)) (decLe (2 * B⁺ s) (2 * halves s + min L (green s)))
     where
-      over : Dec (otherWidth s (min L (green s)) ≡ 0) → 2 * B⁺ s < T + 2 * halves s → inRange s (beyond s L (green s)) ≡ true
-      over (yes none) more =
-          ap (λ p. inRange s (cond p (green s) (min L (green s)))) (eq-eqb (otherWidth s (min L (green s))) 0 none) ∙ green-range
-      over (no some) more =
-          ap (λ p. inRange s (cond p (green s) (min L (green s)))) (ne-eqb (otherWidth s (min L (green s))) 0 some)
-          ∙ within s fit (min L (green s)) (omega (arith, green-some s fit)) (omega (arith, B-green s fit)) (omega arith)
-
-      go : Dec (T + 2 * halves s ≤ 2 * B⁺ s) → inRange s (platoonWidth s L T) ≡ true
-      go (yes fits) =
+      go : Dec (T + 2 * halves s ≤ 2 * B⁺ s) → Dec (2 * B⁺ s ≤ 2 * halves s + min L (green s)) → inRange s (platoonWidth s L T) ≡ true
+      go (yes fits) d =
           let D = 2 * B⁺ s - 2 * halves s in
           let l = share (B⁺ s - halves s) D L T (omega arith) (omega arith) (omega arith) in
-          let m = min (D * L / T) (green s) in
-          ap (inRange s)
-          (rule L T ∙ ap (λ p. cond p m (beyond s L (green s))) (le-leb (T + 2 * halves s) (2 * B⁺ s) fits))
-          ∙ within s fit m (omega (arith, green-some s fit)) (omega (arith, B-green s fit)) (omega arith)
-      go (no more) =
-          let l : 2 * B⁺ s < T + 2 * halves s = omega arith in
-          ap (inRange s) (past L T l) ∙ over (ℕ-discrete (otherWidth s (min L (green s))) 0) l
+          ap (inRange s) (platoons-fit L T fits)
+          ∙ within s fit (min (D * L / T) (green s)) (omega (arith, green-some s fit)) (omega (arith, B-green s fit)) (omega arith)
+      go (no more) (yes none) = ap (inRange s) (platoons-crowd L T (omega arith) none) ∙ green-range
+      go (no more) (no some) =
+          ap (inRange s) (platoons-rest L T (omega arith) (omega arith))
+          ∙ within s fit (min L (green s)) (omega (arith, green-some s fit)) (omega (arith, B-green s fit)) (omega arith)
 
   -- where B is 0 or less it is g
   pub platoons-widest : (L T : ℕ) → 1 ≤ T → leℤ (B s) (pos 0) ≡ true → pos (platoonWidth s L T) ≡ g s
   platoons-widest L T some none =
       let H = halves s in
       let l = leb-true (B⁺ s) (0 + H) (sym (ap₂ leℤ (B-raised s fit) (raise 0 H) ∙ le-sub (B⁺ s) (0 + H) H) ∙ none) in
-      let nothing : otherWidth s (min L (green s)) ≡ 0 = omega (arith, other-width s fit (min L (green s))) in
-      ap pos (past L T (omega arith) ∙ ap (λ p. cond p (green s) (min L (green s))) (eq-eqb (otherWidth s (min L (green s))) 0 nothing))
-      ∙ sym (g-is s fit)
+      ap pos (platoons-crowd L T (omega arith) (omega arith)) ∙ sym (g-is s fit)
+
+-- no width of the rule is above g
+pub platoon-le : (s : Timed) (L T : ℕ) → platoonWidth s L T ≤ orZero (g s)
+unfolding platoonWidth
+platoon-le s L T = go (leℤ (pos T) (B s +ℤ B s)) (eqb (otherWidth s (min L (orZero (g s)))) 0)
+  where
+    go : (t v : Bool) → cond t (min (orZero (B s +ℤ B s) * L / T) (orZero (g s))) (cond v (orZero (g s)) (min L (orZero (g s)))) ≤ orZero (g s)
+    go true v = omega arith
+    go false true = omega arith
+    go false false = omega arith

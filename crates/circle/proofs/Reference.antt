@@ -53,7 +53,7 @@ module _ (s : Timed) (fit : Fit s) where
       subst (First (s .signals) (b⁺ s)) (reference-is s fit c (m .below) (m .best) (m .before)) m
 
   -- which of the two widths the phase goes by
-  phase-test : (i j : ℕ) → j < s .signals → leℤ (pairWidth s i j (s .cycle)) (pairWidth s i j 0) ≡ leb (raised s i j (s .cycle)) (raised s i j 0)
+  pub phase-test : (i j : ℕ) → j < s .signals → leℤ (pairWidth s i j (s .cycle)) (pairWidth s i j 0) ≡ leb (raised s i j (s .cycle)) (raised s i j 0)
   phase-test i j l =
       ap₂ leℤ (raised-width s i j (s .cycle) (low s fit j l)) (raised-width s i j 0 (low s fit j l))
       ∙ le-sub (raised s i j (s .cycle)) (raised s i j 0) (halves s)

@@ -178,3 +178,10 @@ orZero-sub a h = go (decLt a h)
     go : Dec (a < h) → orZero (subℕ a h) ≡ a - h
     go (yes l) = let e : 0 ≡ a - h = omega arith in ap orZero (sub-neg a h l) ∙ e
     go (no n) = let l : h ≤ a = omega arith in ap orZero (sub-pos a h l)
+
+-- naturals as signed numbers: a difference that does not go below 0, and the smaller of two
+pub pos-less : (a b : ℕ) → b ≤ a → pos (a - b) ≡ pos a -ℤ pos b
+pos-less a b l = sym (pos-minus a b ∙ sub-pos a b l)
+
+pub pos-min : (a b : ℕ) → pos (min a b) ≡ minℤ (pos a) (pos b)
+pos-min a b = pos-sub (min a b) ∙ sym (min-sub a b 0) ∙ ap₂ minℤ (sym (pos-sub a)) (sym (pos-sub b))

@@ -1,10 +1,9 @@
 // What a circle of time is: remainders, choices over signals, and the published method's widths over any cycle, reds and times. specs/
 // has the definitions and proofs/ the laws about them; the code is the two ways to go back on a circle, with a division and without,
 // and the choices between two numbers.
-ghost use Prim.Native.Nat.{_+_, _≤_, _<_, _^_};
+ghost use Prim.Native.Nat.{_+_, _-_, _≤_, _<_, _^_, min, max};
 ghost use mathlib.Core.Path.{_≡_};
 ghost use lib.IntN.{pos, _-ℤ_};
-ghost use Rattle.circle.specs.Signed.{minℤ, maxℤ, orZero};
 ghost use Rattle.circle.specs.Man.{man};
 
 // The remainder of a - b by h, in 0 to h - 1.
@@ -28,7 +27,7 @@ pub fn back(h: u32, a: u32, b: u32) -> u32
 
 // The smaller of two numbers.
 pub fn smaller(a: u32, b: u32) -> u32
-    ensures { λ r. ⌜ pos r ≡ minℤ (pos a) (pos b) ⌝ }
+    ensures { λ r. ⌜ r ≡ min a b ⌝ }
 {
     if a <= b {
         return a;
@@ -38,7 +37,7 @@ pub fn smaller(a: u32, b: u32) -> u32
 
 // The larger of two numbers.
 pub fn larger(a: u32, b: u32) -> u32
-    ensures { λ r. ⌜ pos r ≡ maxℤ (pos a) (pos b) ⌝ }
+    ensures { λ r. ⌜ r ≡ max a b ⌝ }
 {
     if a <= b {
         return b;
@@ -48,7 +47,7 @@ pub fn larger(a: u32, b: u32) -> u32
 
 // What a has over b, or nothing.
 pub fn surplus(a: u32, b: u32) -> u32
-    ensures { λ r. ⌜ r ≡ orZero (pos a -ℤ pos b) ⌝ }
+    ensures { λ r. ⌜ r ≡ a - b ⌝ }
 {
     if a < b {
         return 0;

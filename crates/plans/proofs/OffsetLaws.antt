@@ -6,31 +6,33 @@ use mathlib.Core.Bool.{Bool, true, false, cond}
 use mathlib.Core.List.{List, _++_}
 use native.Mathlib.Omega.{arith}
 use native.Mathlib.Nat.{add-zero}
-use lib.IntN.{pos, _+ℤ_, _-ℤ_}
+use lib.IntN.{pos, _-ℤ_}
 use lib.ListN.{drop, getD}
 use lib.Dec.{leb}
 use borrow.Author.Tests.{le-leb, lt-leb}
 use Rattle.circle.specs.Man.{man}
 use Rattle.circle.specs.Over.{listBelow}
-use Rattle.circle.specs.Signed.{leℤ, orZero}
-use Rattle.circle.specs.Method.{Timed, halves, u, pairWidth, B, reference, phase, offset, redEnd, redStart}
-use Rattle.circle.specs.Moved.{chosen, outboundLowering, inboundLowering, lowered as lowered′}
-use Rattle.circle.proofs.Signed.{pos-minus, pos-sub, add-sub, minus-sub, sub-eq, le-sub}
+use Rattle.circle.specs.Method.{Timed, halves, u, reference, phase, offset, redEnd, redStart}
+use Rattle.circle.specs.Moved.{chosen, lowered}
 use Rattle.circle.proofs.Over.{getD-listBelow}
 use Rattle.circle.proofs.Man.{man-lt, man-is, man-turns}
-use Rattle.circle.proofs.Method.{raised-width, offset-is, reference-lt}
+use Rattle.circle.proofs.Method.{reference-lt}
+use Rattle.circle.proofs.Raised.{Fit}
+use Rattle.circle.proofs.Reference.{phase-test}
+use Rattle.circle.proofs.Reflection.{offset-turns}
+use Rattle.circle.proofs.Moving.{B⁺, outbound-lowering, inbound-lowering}
 use Rattle.street.specs.Limits.{maxTime}
 use Rattle.street.specs.Streets.{timedStreet, Sound}
 use Rattle.street.specs.declared.Street.{Street}
-use Rattle.search.specs.Search.{lowered, pairOf, Pair}
+use Rattle.search.specs.Search.{pairOf}
 use Rattle.plans.specs.Moved.{lowering, movedOffset}
 use Rattle.plans.specs.Steps.{Ready, shiftWidth, choiceBy, betterOf, choiceOf, loweringOf, offsetAt}
 use Rattle.plans.specs.declared.offsets.Choice.{Choice}
 use Rattle.plans.specs.declared.widths.Shift.{Shift}
 use Rattle.plans.specs.declared.widths.Shift.the-variants.{Unmoved, Outbound, Inbound}
-use Rattle.circle.proofs.Choices.{surplus-some}
-use Rattle.search.proofs.Pairs.{pair-widths}
-use Rattle.search.proofs.Leading.{lowered-injective}
+use Rattle.search.proofs.Pairs.{Pair, pair-widths}
+use Rattle.search.proofs.Leading.{fit-sound}
+use Rattle.plans.proofs.WidthLaws.{raised-is}
 
 -- a raised width and its red have a u on the cycle in them
 abbrev pub HasU : ℕ → ℕ → ℕ → Type 0
@@ -66,80 +68,50 @@ choice-small cycle from to red some goes = go (leb (getD w 1 0) (getD w 0 0))
     go true = let range = even-range cycle from to red w some goes refl in omega arith
     go false = let range = odd-range cycle from to red w some goes refl in omega arith
 
--- a raised width has its u in it
-raised-u : (s : Timed) (c j e w : ℕ) → s .red j < s .cycle → lowered s w ≡ pairWidth s c j e → w + 2 * s .red j ≡ u s c j e + 2 * s .cycle
-raised-u s c j e w goes is =
-    let low : 2 * s .red j ≤ 2 * s .cycle = omega arith in
-    let same = lowered-injective s w (u s c j e + (halves s - 2 * s .red j)) (is ∙ raised-width s c j e low) in
-    omega arith
-
 -- the better phase by raised widths is the method's, and so is its u
-module _ (s : Timed) (c j : ℕ) (w : List ℕ) (ok : Pair s c j w) where
+module _ (s : Timed) (fit : Fit s) (c j : ℕ) (l : j < s .signals) (w : List ℕ) (ok : Pair s c j w) where
   better-phase : betterOf (s .cycle) (s .red j) w .phase ≡ phase s c j
   unfolding phase
-  better-phase =
-      sym
-      (ap (λ t. cond t 0 (s .cycle))
-      (ap₂ leℤ (sym (ok .odd) ∙ pos-minus (getD w 1 0) (halves s)) (sym (ok .even) ∙ pos-minus (getD w 0 0) (halves s))
-      ∙ le-sub (getD w 1 0) (getD w 0 0) (halves s)))
+  better-phase = ap (λ t. cond t 0 (s .cycle)) (ap₂ leb (ok .odd) (ok .even) ∙ sym (phase-test s fit c j l))
 
-  better-u : s .red j < s .cycle → betterOf (s .cycle) (s .red j) w .u ≡ u s c j (phase s c j)
-  better-u goes = go (leb (getD w 1 0) (getD w 0 0)) ∙ ap (u s c j) better-phase
+  better-u : betterOf (s .cycle) (s .red j) w .u ≡ u s c j (phase s c j)
+  better-u = go (leb (getD w 1 0) (getD w 0 0)) ∙ ap (u s c j) better-phase
     where
       go : (t : Bool) → choiceBy (s .cycle) (s .red j) w t .u ≡ u s c j (cond t 0 (s .cycle))
-      go true = omega (arith, raised-u s c j 0 (getD w 0 0) goes (ok .even))
-      go false = omega (arith, raised-u s c j (s .cycle) (getD w 1 0) goes (ok .odd))
+      go true = omega (arith, ok .even, fit .goes j l)
+      go false = omega (arith, ok .odd, fit .goes j l)
 
 -- the reference is one of the signals
-pub ready-lt : (s : Street) (x : List ℕ) (c raised : ℕ) → Ready s x c raised → c < s .signals
-ready-lt s x c raised ok = omega (arith, ok .found, reference-lt (timedStreet s) (ok .base .sound .some))
+pub ready-lt : (s : Street) (x : List ℕ) (c raised : ℕ) → Ready s x c raised → c < s .road .signals
+ready-lt s x c raised ok = omega (arith, ok .found, reference-lt (timedStreet s) (ok .base .sound .road .some))
 
 -- one side of an offset is small enough that no sum wraps
-pub side-small : (s : Street) (i j : ℕ) → Sound s → i < s .signals → j < s .signals → getD (s .outbound) i 0 + getD (s .inbound) j 0 ≤ 2 * maxTime
-side-small s i j ok li lj = omega (arith, ok .out i li, ok .back j lj)
+pub side-small : (s : Street) (i j : ℕ) → Sound s → i < s .road .signals → j < s .road .signals → getD (s .road .outbound) i 0 + getD (s .road .inbound) j 0 ≤ 2 * maxTime
+side-small s i j ok li lj = omega (arith, ok .road .out i li, ok .road .back j lj)
 
 pub lowering-small : (raised red x : ℕ) (shift : Shift) → loweringOf shift raised red x ≤ shiftWidth shift + x + 2 * red
 lowering-small raised red x Unmoved = omega arith
-lowering-small raised red x (Outbound w) = omega (arith, surplus-some (x + w) raised)
-lowering-small raised red x (Inbound w) = omega (arith, surplus-some (w + 2 * red) x)
+lowering-small raised red x (Outbound w) = omega arith
+lowering-small raised red x (Inbound w) = omega arith
 
 -- each shift's lowering, with B raised
-lowering-is : (s : Timed) (raised j x : ℕ) (shift : Shift) → lowered s raised ≡ B s → x ≡ chosen s j → loweringOf shift raised (s .red j) x ≡ lowering shift s j
-unfolding outboundLowering inboundLowering
-lowering-is s raised j x Unmoved is e = refl
-lowering-is s raised j x (Outbound w) is e =
-    ap orZero
-    (pos-minus (x + w) raised
-    ∙ sub-eq (x + w) raised (chosen s j + w + halves s) (halves s + 0 + raised) (omega arith)
-    ∙ sym
-    (ap₂ (λ y z. y +ℤ z -ℤ B s) (pos-minus (chosen s j) (halves s)) (pos-sub w)
-    ∙ ap₂ (λ y z. y -ℤ z) (add-sub (chosen s j) (halves s) w 0) (sym is ∙ pos-minus raised (halves s))
-    ∙ minus-sub (chosen s j + w) (halves s + 0) raised (halves s)))
-lowering-is s raised j x (Inbound w) is e = ap (λ (y : ℕ). orZero (pos (w + 2 * s .red j) -ℤ pos y)) e
-
-offset-man : (s : Timed) (c j ahead behind p : ℕ) → 0 < s .cycle → p ≡ phase s c j → ahead ≡ s .outbound j + s .inbound c + p → behind ≡ s .outbound c + s .inbound j → man (halves s) (pos ahead -ℤ pos behind) ≡ offset s c j
-offset-man s c j ahead behind p some ep ea eb =
-    let h : 0 < 2 * s .cycle = omega arith in
-    let turns = man-turns (halves s) ahead behind h in
-    sym
-    (offset-is s c j (man (halves s) (pos ahead -ℤ pos behind)) (man-lt (halves s) (pos ahead -ℤ pos behind) h)
-    (record { p = turns .p; q = turns .q; eq = omega (arith, turns .eq, ep, ea, eb) }))
+lowering-is : (s : Timed) → Fit s → (raised j x : ℕ) (shift : Shift) → raised ≡ B⁺ s → x ≡ chosen s j → loweringOf shift raised (s .red j) x ≡ lowering shift s j
+lowering-is s fit raised j x Unmoved is e = refl
+lowering-is s fit raised j x (Outbound w) is e = omega (arith, outbound-lowering s fit w j)
+lowering-is s fit raised j x (Inbound w) is e = omega (arith, inbound-lowering s fit w j)
 
 -- one remainder goes round the cycle for the offset and its lowering
-lowered-man : (s : Timed) (c j ahead behind down : ℕ) (shift : Shift) → 0 < s .cycle → c ≡ reference s → ahead ≡ s .outbound j + s .inbound c + phase s c j → behind ≡ s .outbound c + s .inbound j → down ≡ lowering shift s j → man (halves s) (pos ahead -ℤ pos (behind + down)) ≡ movedOffset shift s j
-unfolding lowered′
-lowered-man s c j ahead behind down shift some found ea eb ed =
-    let h : 0 < 2 * s .cycle = omega arith in
-    let z = man (halves s) (pos ahead -ℤ pos (behind + down)) in
-    let f = man (halves s) (pos ahead -ℤ pos behind) in
-    let first = man-turns (halves s) ahead behind h in
-    let both = man-turns (halves s) ahead (behind + down) h in
+moved-man : (s : Timed) (c j p down : ℕ) (shift : Shift) → 0 < halves s → c ≡ reference s → p ≡ phase s c j → down ≡ lowering shift s j → man (halves s) (pos (s .outbound j + s .inbound c + p) -ℤ pos (s .outbound c + s .inbound j + down)) ≡ movedOffset shift s j
+unfolding lowered offset
+moved-man s c j p down shift h found ep ed =
+    let ahead = s .outbound j + s .inbound c + p in
+    let behind = s .outbound c + s .inbound j + down in
+    let equal = offset-turns s c j (phase s c j) (offset s c j) h refl in
+    let moved = man-turns (halves s) ahead behind h in
     sym
-    (man-is (halves s) f down z (man-lt (halves s) (pos ahead -ℤ pos (behind + down)) h)
-    (record { p = both .p + first .q; q = both .q + first .p; eq = omega (arith, first .eq, both .eq) }))
-    ∙ ap₂ (λ (x y : ℕ). man (halves s) (pos x -ℤ pos y))
-    (offset-man s c j ahead behind (phase s c j) some refl ea eb ∙ ap (λ (k : ℕ). offset s k j) found)
-    ed
+    (ap₂ (λ (k x : ℕ). man (halves s) (pos (offset s k j) -ℤ pos x)) (sym found) (sym ed)
+    ∙ man-is (halves s) (offset s c j) down (man (halves s) (pos ahead -ℤ pos behind)) (man-lt (halves s) (pos ahead -ℤ pos behind) h)
+    (record { p = moved .p + equal .q; q = moved .q + equal .p; eq = omega (arith, moved .eq, equal .eq, ep) }))
 
 -- an offset from the better phase and the lowering, as the code joins them to the two sides
 pub offset-parts : (cycle raised : ℕ) (shift : Shift) (from to red ahead behind : ℕ) (better : Choice) (down r : ℕ) → better ≡ choiceOf cycle from to red → down ≡ loweringOf shift raised red (better .u) → r ≡ man (2 * cycle) (pos (ahead + better .phase) -ℤ pos (behind + down)) → r ≡ offsetAt cycle raised shift from to red ahead behind
@@ -150,33 +122,31 @@ offset-parts cycle raised shift from to red ahead behind better down r found low
     (lowers ∙ ap (λ x. loweringOf shift raised red (x .u)) found)
 
 -- what the code works out for a signal of a street is the signal's offset
-pub offset-at-is : (s : Street) (x : List ℕ) (c raised j r : ℕ) (shift : Shift) → Ready s x c raised → j < s .signals → r ≡ offsetAt (s .cycle) raised shift (getD x c 0) (getD x j 0) (getD (s .reds) j 0) (getD (s .outbound) j 0 + getD (s .inbound) c 0) (getD (s .outbound) c 0 + getD (s .inbound) j 0) → r ≡ movedOffset shift (timedStreet s) j
+pub offset-at-is : (s : Street) (x : List ℕ) (c raised j r : ℕ) (shift : Shift) → Ready s x c raised → j < s .road .signals → r ≡ offsetAt (s .cycle) raised shift (getD x c 0) (getD x j 0) (getD (s .reds) j 0) (getD (s .road .outbound) j 0 + getD (s .road .inbound) c 0) (getD (s .road .outbound) c 0 + getD (s .road .inbound) j 0) → r ≡ movedOffset shift (timedStreet s) j
 unfolding chosen
 offset-at-is s x c raised j r shift ok l e =
     let z = timedStreet s in
-    let goes = ok .base .sound .goes j l in
-    let turns : 0 < z .cycle = omega (arith, ok .base .sound .shortest) in
+    let fit = fit-sound s (ok .base .sound) in
     let lc = ready-lt s x c raised ok in
     let w = pairOf (s .cycle) (getD x c 0) (getD x j 0) (z .red j) in
     let better = betterOf (s .cycle) (z .red j) w in
-    let pair = pair-widths z c j (getD x c 0) (getD x j 0) w turns goes (ok .places .each c lc) (ok .places .each j l) refl in
-    let own : better .u ≡ chosen z j = better-u z c j w pair goes ∙ ap (λ (k : ℕ). u z k j (phase z k j)) (ok .found) in
+    let pair = pair-widths z c j (getD x c 0) (getD x j 0) w (fit .turns) (fit .goes j l) (ok .places .each c lc) (ok .places .each j l) refl in
+    let own : better .u ≡ chosen z j = better-u z fit c j l w pair ∙ ap (λ (k : ℕ). u z k j (phase z k j)) (ok .found) in
     e
-    ∙ lowered-man z c j (z .outbound j + z .inbound c + better .phase) (z .outbound c + z .inbound j) (loweringOf shift raised (z .red j) (better .u)) shift turns (ok .found)
-    (ap (λ (p : ℕ). z .outbound j + z .inbound c + p) (better-phase z c j w pair))
-    refl
-    (lowering-is z raised j (better .u) shift (ok .base .width) own)
+    ∙ moved-man z c j (better .phase) (loweringOf shift raised (z .red j) (better .u)) shift (omega (arith, fit .turns)) (ok .found)
+    (better-phase z fit c j l w pair)
+    (lowering-is z fit raised j (better .u) shift (raised-is s raised (ok .base)) own)
 
 -- the reference's own offset, as it stands in a list that was written
-pub own-written : (s : Street) (x : List ℕ) (c raised : ℕ) (shift : Shift) (before after : List ℕ) → Ready s x c raised → after ≡ listBelow (s .signals) (movedOffset shift (timedStreet s)) ++ drop (s .signals) before → getD after c 0 ≡ movedOffset shift (timedStreet s) (reference (timedStreet s))
+pub own-written : (s : Street) (x : List ℕ) (c raised : ℕ) (shift : Shift) (before after : List ℕ) → Ready s x c raised → after ≡ listBelow (s .road .signals) (movedOffset shift (timedStreet s)) ++ drop (s .road .signals) before → getD after c 0 ≡ movedOffset shift (timedStreet s) (reference (timedStreet s))
 own-written s x c raised shift before after ok wrote =
     let z = timedStreet s in
     ap (λ xs. getD xs c 0) wrote
-    ∙ getD-listBelow (s .signals) (movedOffset shift z) (drop (s .signals) before) c 0 (ready-lt s x c raised ok)
+    ∙ getD-listBelow (s .road .signals) (movedOffset shift z) (drop (s .road .signals) before) c 0 (ready-lt s x c raised ok)
     ∙ ap (movedOffset shift z) (ok .found)
 
 pub moved-lt : (s : Timed) (shift : Shift) (j : ℕ) → 0 < s .cycle → movedOffset shift s j < halves s
-unfolding lowered′
+unfolding lowered
 moved-lt s shift j some =
     let h : 0 < 2 * s .cycle = omega arith in
     man-lt (2 * s .cycle) (pos (offset s (reference s) j) -ℤ pos (lowering shift s j)) h

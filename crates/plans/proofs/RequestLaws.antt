@@ -14,6 +14,7 @@ use Rattle.circle.specs.Method.{Timed, reference, redEnd, redStart}
 use Rattle.circle.specs.Moved.{g, platoonWidth}
 use Rattle.circle.proofs.Over.{list-ext, length-listBelow}
 use Rattle.circle.proofs.Method.{Agree, B-agree, reference-agree, equalWidth-agree, redEnd-agree, redStart-agree, reference-lt}
+use Rattle.circle.proofs.Platoons.{platoon-le}
 use Rattle.circle.proofs.AgreeMoved.{inRange-agree, otherWidth-agree, platoonWidth-agree, outboundLowering-agree, inboundLowering-agree, lowered-agree}
 use Rattle.street.specs.Limits.{maxPlatoon}
 use Rattle.street.specs.Lists.{Lists, signals}
@@ -38,7 +39,7 @@ use Rattle.plans.specs.declared.Request.the-variants as request
 use Rattle.plans.specs.declared.widths.Shift.{Shift}
 use Rattle.plans.specs.declared.widths.Shift.the-variants.{Unmoved, Outbound, Inbound}
 use Rattle.search.proofs.Leading.{fit-sound}
-use Rattle.plans.proofs.WidthLaws.{widest-le, range-le, platoon-le}
+use Rattle.plans.proofs.WidthLaws.{widest-le, range-le}
 
 -- platoons that passed are short enough
 short-enough : (place P : ℕ) → lengthCheck place P ≡ verdict.Passed → P ≤ maxPlatoon
@@ -147,8 +148,8 @@ module _ (s z : Timed) (agree : Agree s z) where
         }
 
 -- the lent list has room for what is written
-pub passed-room : (l : Lists) (room : ℕ) (s : Street) → s ≡ streetOf l → planChecks l room ≡ verdict.Passed → s .signals ≤ room
-passed-room l room s e p = omega (arith, clear l room p .roomy, ap (λ x. x .signals) e)
+pub passed-room : (l : Lists) (room : ℕ) (s : Street) → s ≡ streetOf l → planChecks l room ≡ verdict.Passed → s .road .signals ≤ room
+passed-room l room s e p = omega (arith, clear l room p .roomy, ap (λ x. x .road .signals) e)
 
 -- a refusal, by the checks of all plans or by the request's
 refusal : (asked : Request) (l : Lists) (before : List ℕ) (f : Refusal) → requestChecks asked l (length before) ≡ verdict.Refused f → Requested asked l before before (answer.Refused f)
@@ -173,9 +174,9 @@ asked-refused asked l before s f passed is e =
     refusal asked l before f (check-lists asked l (length before) s (verdict.Refused f) passed is e)
 
 -- a plan
-pub requested-planned : (asked : Request) (l : Lists) (before after : List ℕ) (s : Street) (shift : Shift) (p : Plan) → planChecks l (length before) ≡ verdict.Passed → s ≡ streetOf l → requestCheck asked (timedStreet s) ≡ verdict.Passed → shift ≡ shiftOf asked (timedStreet s) → after ≡ listBelow (s .signals) (movedOffset shift (timedStreet s)) ++ drop (s .signals) before → p ≡ movedPlan shift (timedStreet s) (s .rounded) → Requested asked l before after (answer.Planned p)
+pub requested-planned : (asked : Request) (l : Lists) (before after : List ℕ) (s : Street) (shift : Shift) (p : Plan) → planChecks l (length before) ≡ verdict.Passed → s ≡ streetOf l → requestCheck asked (timedStreet s) ≡ verdict.Passed → shift ≡ shiftOf asked (timedStreet s) → after ≡ listBelow (s .road .signals) (movedOffset shift (timedStreet s)) ++ drop (s .road .signals) before → p ≡ movedPlan shift (timedStreet s) (s .road .rounded) → Requested asked l before after (answer.Planned p)
 requested-planned asked l before after s shift p passed is fits moves wrote planned =
-    let some : 0 < signals l = omega (arith, sound l (length before) passed .some) in
+    let some : 0 < signals l = omega (arith, sound l (length before) passed .road .some) in
     let agree = street-agrees l (length before) passed in
     let z = timedStreet (streetOf l) in
     let mine = shiftOf asked (timed l) in
@@ -185,11 +186,11 @@ requested-planned asked l before after s shift p passed is fits moves wrote plan
     record {
       reply =
           ap answer.Planned
-          (planned ∙ ap₂ (λ k x. movedPlan k (timedStreet x) (x .rounded)) same is ∙ plan-agree z (timed l) agree some mine (m l))
+          (planned ∙ ap₂ (λ k x. movedPlan k (timedStreet x) (x .road .rounded)) same is ∙ plan-agree z (timed l) agree some mine (m l))
           ∙ sym (ap (λ v. answered v (movedPlan mine (timed l) (m l))) all);
       after =
           wrote
-          ∙ ap₂ (λ k x. listBelow (x .signals) (movedOffset k (timedStreet x)) ++ drop (x .signals) before) same is
+          ∙ ap₂ (λ k x. listBelow (x .road .signals) (movedOffset k (timedStreet x)) ++ drop (x .road .signals) before) same is
           ∙ ap (λ xs. xs ++ drop (signals l) before) (list-ext (signals l) (movedOffset mine z) (movedOffset mine (timed l)) (moved-agree z (timed l) agree some mine))
           ∙ ap (λ (k : ℕ). entries ++ drop k before) (sym (length-listBelow (signals l) (movedOffset mine (timed l))))
           ∙ sym (ap (λ v. written v entries before) all);

@@ -6,7 +6,6 @@ use mathlib.Core.List.{List}
 use lib.IntN.{pos, _-ℤ_}
 use lib.ListN.{getD}
 use lib.Dec.{leb}
-use Rattle.circle.specs.Signed.{orZero}
 use Rattle.circle.specs.Man.{man}
 use Rattle.circle.specs.Method.{Timed, B, reference}
 use Rattle.street.specs.Streets.{timedStreet, Sound}
@@ -48,11 +47,11 @@ betterOf cycle red w = choiceBy cycle red w (leb (getD w 1 0) (getD w 0 0))
 abbrev pub choiceOf : ℕ → ℕ → ℕ → ℕ → Choice
 choiceOf cycle from to red = betterOf cycle red (pairOf cycle from to red)
 
--- by how much a shift lowers an offset, from B raised and the signal's red and u
+-- by how much a shift lowers an offset, from B raised and the signal's red and u; by nothing where the difference would be negative
 abbrev pub loweringOf : Shift → ℕ → ℕ → ℕ → ℕ
 loweringOf Unmoved raised red u = 0
-loweringOf (Outbound w) raised red u = orZero (pos (u + w) -ℤ pos raised)
-loweringOf (Inbound w) raised red u = orZero (pos (w + 2 * red) -ℤ pos u)
+loweringOf (Outbound w) raised red u = u + w - raised
+loweringOf (Inbound w) raised red u = w + 2 * red - u
 
 -- an offset from its two sides: the phase joins the side ahead, the lowering the side that is taken away
 abbrev pub offsetAt : ℕ → ℕ → Shift → ℕ → ℕ → ℕ → ℕ → ℕ → ℕ

@@ -57,7 +57,7 @@ fn signed(raised: u32, h: u32) -> i32
 // A plan's numbers, from what the search settled on, how far the request moves the equal plan, and the reference's own offset.
 fn numbers(s: Street, c: usize, raised: u32, shift: Shift, f: u32) -> Plan
     requires { ⌜ Raised s raised × (c ≡ reference (timedStreet s)) × (shiftWidth shift ≤ maxHalves) × (f ≡ movedOffset shift (timedStreet s) (reference (timedStreet s))) ⌝ }
-    ensures { λ r. ⌜ r ≡ movedPlan shift (timedStreet s) (s .rounded) ⌝ }
+    ensures { λ r. ⌜ r ≡ movedPlan shift (timedStreet s) (s .road .rounded) ⌝ }
 {
     let h = 2 * s.cycle;
     let red = s.reds[c];
@@ -67,7 +67,7 @@ fn numbers(s: Street, c: usize, raised: u32, shift: Shift, f: u32) -> Plan
         b: signed(raised, h),
         outbound: reported.outbound,
         inbound: reported.inbound,
-        rounded: s.rounded,
+        rounded: s.road.rounded,
         starts: circle::remainder(h, f + red, 0),
         ends: circle::remainder(h, f, red),
     }

@@ -78,14 +78,15 @@ pub fn write(
     shift: Shift,
     offsets: &mut [u32],
 )
-    requires { ⌜ Ready s x c raised × (shiftWidth shift ≤ maxHalves) × (s .signals ≤ length (now offsets)) ⌝ }
-    ensures { λ _. ⌜ now (offsets .exit) ≡ listBelow (s .signals) (movedOffset shift (timedStreet s)) ++ drop (s .signals) (now (offsets .entry)) ⌝ }
+    requires { ⌜ Ready s x c raised × (shiftWidth shift ≤ maxHalves) × (s .road .signals ≤ length (now offsets)) ⌝ }
+    ensures { λ _. ⌜ now (offsets .exit) ≡ listBelow (s .road .signals) (movedOffset shift (timedStreet s)) ++ drop (s .road .signals) (now (offsets .entry)) ⌝ }
 {
-    let n = s.signals;
+    let road = s.road;
+    let n = road.signals;
     let cycle = s.cycle;
     let from = x[c];
-    let out = s.outbound[c];
-    let back = s.inbound[c];
+    let out = road.outbound[c];
+    let back = road.inbound[c];
     let mut j: usize = 0;
     while j < n {
         offsets[j] = offset_at(
@@ -95,8 +96,8 @@ pub fn write(
             from,
             x[j],
             s.reds[j],
-            s.outbound[j] + back,
-            out + s.inbound[j],
+            road.outbound[j] + back,
+            out + road.inbound[j],
         );
         j += 1;
     }

@@ -32,7 +32,7 @@ fn widest(s: Street) -> u32
     requires { ⌜ Sound s ⌝ }
     ensures { λ r. ⌜ pos r ≡ g (timedStreet s) ⌝ }
 {
-    let n = s.signals;
+    let n = s.road.signals;
     let h = 2 * s.cycle;
     let mut low = h - 2 * s.reds[0];
     let mut j: usize = 1;

@@ -1,5 +1,5 @@
 -- The search in naturals: a row's least is its candidate's b(i) raised, and who leads after all candidates is the reference, with B. Assumes nothing.
-use Prim.Native.Nat.{ℕ, _+_, _*_, _≤_, _<_}
+use Prim.Native.Nat.{ℕ, _+_, _*_, _≤_, _<_, max}
 use mathlib.Core.Path.{_≡_, sym, ap, ap₂, _∙_, subst}
 use mathlib.Core.List.{List, []}
 use native.Mathlib.Omega.{arith}
@@ -7,36 +7,26 @@ use lib.IntN.{pos, subℕ}
 use lib.ListN.{length, getD, set}
 use native.Mathlib.Decide.{ℕ-discrete}
 use lib.Seq.{getD-set-same, getD-set-other}
-use Rattle.circle.specs.Signed.{maxℤ}
 use Rattle.circle.specs.Over.{leastBelow}
 use Rattle.circle.specs.Method.{Timed, halves, B}
-use Rattle.circle.proofs.Signed.{pos-minus, pos-sub, max-sub, sub-injective}
+use Rattle.circle.proofs.Signed.{pos-minus, pos-sub, sub-injective}
 use Rattle.circle.proofs.Over.{minBelow, maxBelow, max-more, max-ge, least-raised}
-use Rattle.circle.proofs.Method.{raised-width}
-use Rattle.circle.proofs.Raised.{Fit, raised, larger-raised, b⁺, b⁺-le, low, top, B-raised, reference-is}
+use Rattle.circle.proofs.Raised.{Fit, larger-raised, b⁺, b⁺-le, top, B-raised, reference-is}
 use Rattle.street.specs.Streets.{timedStreet, Sound}
 use Rattle.street.specs.declared.Street.{Street}
-use Rattle.search.specs.Search.{lowered, Pair, Row, wider, Reduced, Turning, Searched}
-use Rattle.search.proofs.Pairs.{pair-widths, place-lt}
-
-pub lowered-injective : (s : Timed) (x y : ℕ) → lowered s x ≡ subℕ y (halves s) → x ≡ y
-lowered-injective s x y e = sub-injective x y (halves s) (sym (pos-minus x (halves s)) ∙ e)
+use Rattle.search.specs.Search.{lowered, Row, wider, Reduced, Turning, Searched}
+use Rattle.search.proofs.Pairs.{Pair, pair-widths, place-lt}
 
 module _ (s : Timed) (fit : Fit s) where
   -- the least of a row of pairs is its candidate's b(i)
-  least-is : (i : ℕ) (row : List (List ℕ)) (r : ℕ) → ((j : ℕ) → j < s .signals → Pair s i j (getD row j [])) → pos r ≡ leastBelow (s .signals) (wider row) → r ≡ b⁺ s i
+  least-is : (i : ℕ) (row : List (List ℕ)) (r : ℕ) → ((j : ℕ) → j < s .signals → Pair s i j (getD row j [])) → pos r ≡ leastBelow (s .signals) (λ j. pos (wider row j)) → r ≡ b⁺ s i
   unfolding b⁺
   least-is i row r ok e =
       sub-injective r (minBelow (4 * s .cycle) (s .signals) (larger-raised s i)) 0
       (sym (pos-sub r)
       ∙ e
-      ∙ least-raised 0 (4 * s .cycle) (s .signals) (wider row) (larger-raised s i) (fit .some) (top s fit i)
-      (λ j l.
-      ap₂ (λ (x y : ℕ). maxℤ (pos x) (pos y))
-      (lowered-injective s _ _ (ok j l .even ∙ raised-width s i j 0 (low s fit j l)))
-      (lowered-injective s _ _ (ok j l .odd ∙ raised-width s i j (s .cycle) (low s fit j l)))
-      ∙ ap₂ maxℤ (pos-sub (raised s i j 0)) (pos-sub (raised s i j (s .cycle)))
-      ∙ max-sub (raised s i j 0) (raised s i j (s .cycle)) 0))
+      ∙ least-raised 0 (4 * s .cycle) (s .signals) (λ j. pos (wider row j)) (larger-raised s i) (fit .some) (top s fit i)
+      (λ j l. ap₂ (λ (x y : ℕ). pos (max x y)) (ok j l .even) (ok j l .odd) ∙ pos-sub (larger-raised s i j)))
 
   pub B-is : (r : ℕ) → r ≡ maxBelow (s .signals) (b⁺ s) → lowered s r ≡ B s
   B-is r e = pos-minus r (halves s) ∙ ap (λ (x : ℕ). subℕ x (halves s)) e ∙ sym (B-raised s fit)
@@ -91,7 +81,7 @@ turning s x ok places =
     record { goes = ok .goes; on = λ k l. place-lt (timedStreet s) x k places l (omega (arith, ok .shortest)) }
 
 -- and the least of its row is a candidate's b(i)
-pub candidate-is : (s : Street) (x : List ℕ) (i : ℕ) (row : List (List ℕ)) (r : ℕ) → Sound s → Reduced (timedStreet s) x → i < s .road .signals → Row (s .cycle) (s .road .signals) (s .reds) x i row → pos r ≡ leastBelow (s .road .signals) (wider row) → r ≡ b⁺ (timedStreet s) i
+pub candidate-is : (s : Street) (x : List ℕ) (i : ℕ) (row : List (List ℕ)) (r : ℕ) → Sound s → Reduced (timedStreet s) x → i < s .road .signals → Row (s .cycle) (s .road .signals) (s .reds) x i row → pos r ≡ leastBelow (s .road .signals) (λ j. pos (wider row j)) → r ≡ b⁺ (timedStreet s) i
 candidate-is s x i row r ok places l filled e =
     let turns : 0 < s .cycle = omega (arith, ok .shortest) in
     least-is (timedStreet s) (fit-sound s ok) i row r

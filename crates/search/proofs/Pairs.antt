@@ -3,14 +3,15 @@ use Prim.Native.Nat.{ℕ, _+_, _-_, _*_, _≤_, _<_}
 use mathlib.Core.Path.{_≡_, sym, ap, ap₂, _∙_}
 use mathlib.Core.List.{List, [], _∷_}
 use native.Mathlib.Omega.{arith}
-use lib.IntN.{pos, subℕ, _-ℤ_}
+use native.Mathlib.Nat.{add-zero}
+use lib.IntN.{pos, _-ℤ_}
 use lib.ListN.{getD}
 use Rattle.circle.specs.Man.{man}
-use Rattle.circle.specs.Method.{Timed, halves, u, pairWidth}
-use Rattle.circle.proofs.Signed.{pos-minus, pos-sub, minus-sub, sub-eq}
-use Rattle.circle.proofs.Man.{man-lt, man-step}
-use Rattle.circle.proofs.Method.{u-reduced, raised-width}
-use Rattle.search.specs.Search.{lowered, place, pairOf, Pair, Reduced}
+use Rattle.circle.specs.Method.{Timed, halves}
+use Rattle.circle.proofs.Man.{man-lt, man-step, minus-minus}
+use Rattle.circle.proofs.Method.{u-reduced}
+use Rattle.circle.proofs.Raised.{raised}
+use Rattle.search.specs.Search.{place, pairOf, Reduced}
 
 -- a pair's two numbers, from the two remainders that the code takes one after the other
 pub pair-is : (cycle from to red even odd : ℕ) → 1 ≤ cycle → even ≡ man (2 * cycle) (pos from -ℤ pos to) → odd ≡ man (2 * cycle) (pos even -ℤ pos cycle) → (2 * (2 * cycle) - even - 2 * red) ∷ (2 * (2 * cycle) - odd - 2 * red) ∷ [] ≡ pairOf cycle from to red
@@ -23,31 +24,27 @@ pair-is cycle from to red even odd some e o =
     (ap₂ (λ (w x : ℕ). w - x - 2 * red) twice e)
     (ap₂ (λ (w x : ℕ). w - x - 2 * red) twice o′)
 
--- one raised width from places on the cycle
-raised-pair : (s : Timed) (i j e x y : ℕ) → 0 < s .cycle → 2 * s .red j ≤ halves s → x ≡ place s i → y ≡ place s j → lowered s (4 * s .cycle - man (halves s) (pos x -ℤ pos y -ℤ pos e) - 2 * s .red j) ≡ pairWidth s i j e
+-- a pair's widths, raised, under phase 0 and under the cycle
+pub record Pair (s : Timed) (i j : ℕ) (w : List ℕ) : Type 0 where
+  pub even : getD w 0 0 ≡ raised s i j 0
+  pub odd : getD w 1 0 ≡ raised s i j (s .cycle)
+
+-- one of them from places on the cycle
+raised-pair : (s : Timed) (i j e x y : ℕ) → 0 < s .cycle → s .red j < s .cycle → x ≡ place s i → y ≡ place s j → 4 * s .cycle - man (halves s) (pos x -ℤ pos y -ℤ pos e) - 2 * s .red j ≡ raised s i j e
 raised-pair s i j e x y h red ex ey =
     let some : 0 < 2 * s .cycle = omega arith in
-    let l = man-lt (halves s) (pos x -ℤ pos y -ℤ pos e) some in
-    let is = u-reduced s i j e x y h ex ey in
-    let same : 4 * s .cycle - man (halves s) (pos x -ℤ pos y -ℤ pos e) - 2 * s .red j ≡ u s i j e + (halves s - 2 * s .red j) = omega arith in
-    pos-minus (4 * s .cycle - man (halves s) (pos x -ℤ pos y -ℤ pos e) - 2 * s .red j) (halves s)
-    ∙ ap (λ (w : ℕ). subℕ w (halves s)) same
-    ∙ sym (raised-width s i j e red)
+    omega (arith, man-lt (halves s) (pos x -ℤ pos y -ℤ pos e) some, u-reduced s i j e x y h ex ey)
 
-minus-zero : (a b : ℕ) → pos a -ℤ pos b -ℤ pos 0 ≡ pos a -ℤ pos b
-minus-zero a b =
-    ap (λ z. z -ℤ pos 0) (pos-minus a b) ∙ ap (λ z. subℕ a b -ℤ z) (pos-sub 0) ∙ minus-sub a b 0 0 ∙ sub-eq (a + 0) (b + 0) a b (omega arith) ∙ sym (pos-minus a b)
-
--- and a pair of them
+-- and both
 pub pair-widths : (s : Timed) (i j x y : ℕ) (w : List ℕ) → 0 < s .cycle → s .red j < s .cycle → x ≡ place s i → y ≡ place s j → w ≡ pairOf (s .cycle) x y (s .red j) → Pair s i j w
 pair-widths s i j x y w h red ex ey e =
-    let low : 2 * s .red j ≤ 2 * s .cycle = omega arith in
+    let same : pos x -ℤ pos y -ℤ pos 0 ≡ pos x -ℤ pos y = minus-minus x y 0 ∙ ap (λ (k : ℕ). pos x -ℤ pos k) (add-zero y) in
     record {
       even =
-          ap (λ z. lowered s (getD z 0 0)) e
-          ∙ ap (λ z. lowered s (4 * s .cycle - man (halves s) z - 2 * s .red j)) (sym (minus-zero x y))
-          ∙ raised-pair s i j 0 x y h low ex ey;
-      odd = ap (λ z. lowered s (getD z 1 0)) e ∙ raised-pair s i j (s .cycle) x y h low ex ey;
+          ap (λ z. getD z 0 0) e
+          ∙ ap (λ z. 4 * s .cycle - man (halves s) z - 2 * s .red j) (sym same)
+          ∙ raised-pair s i j 0 x y h red ex ey;
+      odd = ap (λ z. getD z 1 0) e ∙ raised-pair s i j (s .cycle) x y h red ex ey;
     }
 
 -- places lie on the cycle

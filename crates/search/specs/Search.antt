@@ -1,13 +1,12 @@
 -- What the search's own functions say of their numbers, in the method's terms. The search keeps widths raised by the cycle H, so that none is negative: a raised
 -- number less H is the signed one.
-use Prim.Native.Nat.{ℕ, _+_, _-_, _*_, _≤_, _<_}
+use Prim.Native.Nat.{ℕ, _+_, _-_, _*_, _≤_, _<_, max}
 use mathlib.Core.Path.{_≡_}
 use mathlib.Core.List.{List, [], _∷_}
 use lib.IntN.{ℤ, pos, _-ℤ_}
 use lib.ListN.{getD}
 use Rattle.circle.specs.Man.{man}
-use Rattle.circle.specs.Signed.{maxℤ}
-use Rattle.circle.specs.Method.{Timed, halves, pairWidth, B, reference}
+use Rattle.circle.specs.Method.{Timed, halves, B, reference}
 use Rattle.search.specs.declared.Candidate.{Candidate}
 
 -- a raised number as the signed number that it stands for
@@ -29,11 +28,6 @@ pairOf cycle from to red =
     ∷ (4 * cycle - man (2 * cycle) (pos from -ℤ pos to -ℤ pos cycle) - 2 * red)
     ∷ []
 
--- two raised widths, under phase 0 and under the cycle
-pub record Pair (s : Timed) (i j : ℕ) (w : List ℕ) : Type 0 where
-  pub even : lowered s (getD w 0 0) ≡ pairWidth s i j 0
-  pub odd : lowered s (getD w 1 0) ≡ pairWidth s i j (s .cycle)
-
 -- reds shorter than the cycle, and places on it
 pub record Turning (cycle n : ℕ) (reds x : List ℕ) : Type 0 where
   pub goes : (k : ℕ) → k < n → getD reds k 0 < cycle
@@ -44,8 +38,8 @@ pub record Row (cycle n : ℕ) (reds x : List ℕ) (i : ℕ) (row : List (List �
   pub each : (j : ℕ) → j < n → getD row j [] ≡ pairOf cycle (getD x i 0) (getD x j 0) (getD reds j 0)
 
 -- the larger of a row's pair at a limit
-abbrev pub wider : List (List ℕ) → ℕ → ℤ
-wider row j = maxℤ (pos (getD (getD row j []) 0 0)) (pos (getD (getD row j []) 1 0))
+abbrev pub wider : List (List ℕ) → ℕ → ℕ
+wider row j = max (getD (getD row j []) 0 0) (getD (getD row j []) 1 0)
 
 -- what the search answers: the reference, and B raised
 pub record Searched (s : Timed) (r : Candidate) : Type 0 where

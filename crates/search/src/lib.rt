@@ -67,7 +67,7 @@ fn fill(
 // The least over the limits of the larger width of each pair: a candidate's b(i), raised.
 fn least(pairs: &[[u32; 2]; Street::MAX_SIGNALS], n: usize) -> u32
     requires { ⌜ (1 ≤ n) × (n ≤ maxSignals) ⌝ }
-    ensures { λ r. ⌜ pos r ≡ leastBelow n (wider (now (pairs .entry))) ⌝ }
+    ensures { λ r. ⌜ pos r ≡ leastBelow n (λ j. pos (wider (now (pairs .entry)) j)) ⌝ }
 {
     let mut low = circle::larger(pairs[0][0], pairs[0][1]);
     let mut j: usize = 1;

@@ -15,8 +15,8 @@ use borrow.Author.Needs.{needs}
 use Rattle.plans.proofs.numbers.Statement.{statement}
 use Rattle.plans.proofs.numbers.Tie as tie
 
-reference-in : (c : tie.Start) → c .args .c < c .args .t1 .signals
-reference-in c = omega (arith, c .pre .1, reference-lt (timedStreet (c .args .t1)) (c .pre .0 .sound .some))
+reference-in : (c : tie.Start) → c .args .c < c .args .t1 .road .signals
+reference-in c = omega (arith, c .pre .1, reference-lt (timedStreet (c .args .t1)) (c .pre .0 .sound .road .some))
 
 -- the reference's own offset lies on the cycle, and its red is shorter
 on-cycle : (c : tie.Start) → (c .args .f < 2 * c .args .t1 .cycle) × (getD (c .args .t1 .reds) (c .args .c) 0 < c .args .t1 .cycle) × (1 ≤ c .args .t1 .cycle) × (c .args .t1 .cycle ≤ maxCycle)
@@ -37,19 +37,19 @@ mul-h : tie.Need-mul-h
 mul-h c = search needs
 
 mul-red : tie.Need-mul-red
-mul-red c = omega (arith, reference-in c, c .pre .0 .sound .few)
+mul-red c = omega (arith, reference-in c, c .pre .0 .sound .road .few)
 
 element-copy-out-red : tie.Need-element-copy-out-red
-element-copy-out-red c = omega (arith, reference-in c, c .pre .0 .sound .few)
+element-copy-out-red c = omega (arith, reference-in c, c .pre .0 .sound .road .few)
 
 reported-requires : tie.Need-reported-requires
 reported-requires c κs = search needs
 
 add-t11 : tie.Need-add-t11
-add-t11 c = omega (arith, reference-in (c .before .before), c .before .before .pre .0 .sound .few)
+add-t11 c = omega (arith, reference-in (c .before .before), c .before .before .pre .0 .sound .road .few)
 
 cast-t10 : tie.Need-cast-t10
-cast-t10 c = omega (arith, reference-in (c .before .before), c .before .before .pre .0 .sound .few)
+cast-t10 c = omega (arith, reference-in (c .before .before), c .before .before .pre .0 .sound .road .few)
 
 signed-requires : tie.Need-signed-requires
 signed-requires c κs = search needs
@@ -70,7 +70,7 @@ returns c =
     let same = c0 .pre .1 in
     let own = c0 .pre .3 in
     let w = c .before .before .before .reported .ensures in
-    λ i. record { reference = same i + 1; b = B-read (c .before .before) i; outbound = w i .outbound; inbound = w i .inbound; rounded = c0 .args .t1 .rounded; starts = (c .before .remainder .ensures ∙ red-end-man s (c0 .args .c) (c0 .args .f) ∙ ap₂ (redEnd s) same own) i; ends = (c .remainder2 .ensures ∙ red-start-man s (c0 .args .c) (c0 .args .f) ∙ ap₂ (redStart s) same own) i }
+    λ i. record { reference = same i + 1; b = B-read (c .before .before) i; outbound = w i .outbound; inbound = w i .inbound; rounded = c0 .args .t1 .road .rounded; starts = (c .before .remainder .ensures ∙ red-end-man s (c0 .args .c) (c0 .args .f) ∙ ap₂ (redEnd s) same own) i; ends = (c .remainder2 .ensures ∙ red-start-man s (c0 .args .c) (c0 .args .f) ∙ ap₂ (redStart s) same own) i }
 
 pub numbers-spec : {M : Type 1} → statement M
 numbers-spec =

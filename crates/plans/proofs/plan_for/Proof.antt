@@ -5,6 +5,7 @@ use Prim.Native.Nat.{ℕ, _≤_, _<_}
 use mathlib.Core.List.{List}
 use native.Mathlib.Omega.{arith}
 use lib.ListN.{length}
+use Rattle.street.specs.Limits.{maxSignals}
 use Rattle.street.specs.Lists.{Lists, typed}
 use Rattle.street.specs.Checks.{planChecks}
 use Rattle.street.specs.Streets.{streetOf, timedStreet, Sound}
@@ -43,7 +44,7 @@ street-is c = passed-street (lists (entry c)) (length (lent (entry c))) (survey 
 street-sound : (c : tie.After-s) → Sound (survey c .street)
 street-sound c = passed-sound (lists (entry c)) (length (lent (entry c))) (survey c .street) (street-is c) (passed c)
 
-room : (c : tie.After-s) → survey c .street .signals ≤ length (lent (entry c))
+room : (c : tie.After-s) → survey c .street .road .signals ≤ length (lent (entry c))
 room c = passed-room (lists (entry c)) (length (lent (entry c))) (survey c .street) (street-is c) (passed c)
 
 -- after the search, all that a plan is made from
@@ -56,9 +57,9 @@ ready c =
       found = r .found;
     }
 
-reference-in : (c : tie.After-reference) → (c .reference .result .signal < survey (c .before .before) .street .signals) × (survey (c .before .before) .street .signals ≤ 32)
+reference-in : (c : tie.After-reference) → (c .reference .result .signal < survey (c .before .before) .street .road .signals) × (survey (c .before .before) .street .road .signals ≤ maxSignals)
 reference-in c =
-    (ready-lt (survey (c .before .before) .street) (c .before .reduced .result) (c .reference .result .signal) (c .reference .result .raised) (ready c), street-sound (c .before .before) .few)
+    (ready-lt (survey (c .before .before) .street) (c .before .reduced .result) (c .reference .result .signal) (c .reference .result .raised) (ready c), street-sound (c .before .before) .road .few)
 
 -- a request that passed its check, and the width of its shift
 abbrev out : tie.After-enum-told2 → tie.After-s

@@ -6,13 +6,14 @@ use lib.IntN.{pos}
 use borrow.Author.Needs.{needs}
 use Rattle.circle.specs.Over.{leastBelow}
 use Rattle.circle.specs.Signed.{minℤ}
+use Rattle.circle.proofs.Signed.{pos-min}
 use Rattle.circle.proofs.Over.{least-more}
 use Rattle.search.specs.Search.{wider}
 use Rattle.search.proofs.least.Statement.{statement}
 use Rattle.search.proofs.least.Tie as tie
 
 abbrev Inv-loop : tie.InvT-loop
-Inv-loop pairs n low₀ j₀ low j = (1 ≤ j) × (j ≤ n) × (pos low ≡ leastBelow j (wider pairs))
+Inv-loop pairs n low₀ j₀ low j = (1 ≤ j) × (j ≤ n) × (pos low ≡ leastBelow j (λ q. pos (wider pairs q)))
 
 abbrev μ-loop : tie.MeasureT-loop
 μ-loop pairs n low₀ j₀ low j = n - j
@@ -34,7 +35,7 @@ larger-requires c κs = search needs
 
 loop-holds : tie.Need-loop-holds Inv-loop μ-loop
 unfolding leastBelow
-loop-holds c = (search needs, search needs, c .larger .ensures)
+loop-holds c = (search needs, search needs, ap pos (c .larger .ensures))
 
 mul-larger : tie.Need-mul-larger Inv-loop μ-loop
 mul-larger c = search needs
@@ -67,10 +68,17 @@ loop-less : tie.Need-loop-less Inv-loop μ-loop
 loop-less c = search needs
 
 loop-again : tie.Need-loop-again Inv-loop μ-loop
-loop-again c = (omega arith, omega arith, c .smaller .ensures ∙ ap₂ minℤ (c .before .before .before .before .before .loop .inv .2) (c .before .larger2 .ensures) ∙ sym (least-more (c .before .before .before .before .before .loop .j) (wider (c .before .before .before .before .before .before .before .before .before .args .pairs .now)) (c .before .before .before .before .before .loop .inv .0)))
+loop-again c =
+    let loop = c .before .before .before .before .before .loop in
+    let pairs = c .before .before .before .before .before .before .before .before .before .args .pairs .now in
+    let here = c .before .larger2 in
+    (omega arith, omega arith, ap pos (c .smaller .ensures) ∙ pos-min (loop .low) (here .result) ∙ ap₂ minℤ (loop .inv .2) (ap pos (here .ensures)) ∙ sym (least-more (loop .j) (λ q. pos (wider pairs q)) (loop .inv .0)))
 
 returns : tie.Need-returns Inv-loop μ-loop
-returns c = let e : c .before .loop .j ≡ c .before .before .before .before .before .args .n = omega arith in c .before .loop .inv .2 ∙ ap (λ (k : ℕ). leastBelow k (wider (c .before .before .before .before .before .args .pairs .now))) e
+returns c =
+    let c0 = c .before .before .before .before .before in
+    let all : c .before .loop .j ≡ c0 .args .n = omega arith in
+    c .before .loop .inv .2 ∙ ap (λ (k : ℕ). leastBelow k (λ q. pos (wider (c0 .args .pairs .now) q))) all
 
 pub least-spec : {M : Type 1} → statement M
 least-spec =

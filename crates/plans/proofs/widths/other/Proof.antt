@@ -1,7 +1,9 @@
 -- `plans::widths::other` meets its contract: 2B less the width is the surplus over the width and twice the cycle, once B is raised. Assumes nothing.
-use mathlib.Core.Path.{_∙_}
+use native.Mathlib.Omega.{arith}
+use Rattle.circle.proofs.Moving.{other-width}
 use Rattle.street.specs.Streets.{timedStreet}
-use Rattle.plans.proofs.WidthLaws.{other-surplus}
+use Rattle.search.proofs.Leading.{fit-sound}
+use Rattle.plans.proofs.WidthLaws.{raised-is}
 use borrow.Author.Needs.{needs}
 use Rattle.plans.proofs.widths.other.Statement.{statement}
 use Rattle.plans.proofs.widths.other.Tie as tie
@@ -21,7 +23,9 @@ surplus-requires c κs = search needs
 returns : tie.Need-returns
 returns c =
     let c0 = c .before .before in
-    c .surplus .ensures ∙ other-surplus (timedStreet (c0 .args .s)) (c0 .args .raised) (c0 .pre .0 .width) (c0 .args .width)
+    let s = c0 .args .s in
+    let fit = fit-sound s (c0 .pre .0 .sound) in
+    omega (arith, c .surplus .ensures, other-width (timedStreet s) fit (c0 .args .width), raised-is s (c0 .args .raised) (c0 .pre .0))
 
 pub other-spec : {M : Type 1} → statement M
 other-spec = tie.close (tie.spec mul-surplus mul-surplus-2 add-surplus surplus-requires returns)

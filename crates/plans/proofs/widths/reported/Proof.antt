@@ -1,12 +1,14 @@
 -- `plans::widths::reported` meets its contract: each shift's widths are those of its arm. Assumes nothing.
-use mathlib.Core.Path.{sym, ap, _∙_}
+use mathlib.Core.Path.{_≡_, sym, ap, _∙_}
 use Prim.Native.Nat.{ℕ}
 use native.Mathlib.Omega.{arith}
 use Rattle.street.specs.Streets.{timedStreet}
-use Rattle.circle.specs.Signed.{orZero}
 use Rattle.circle.specs.Method.{equalWidth}
+use Rattle.circle.proofs.Moving.{equal-width}
+use Rattle.search.proofs.Leading.{fit-sound}
 use Rattle.plans.specs.Steps.{shiftWidth, widthsOf}
 use Rattle.plans.specs.declared.widths.Widths.{Widths}
+use Rattle.plans.proofs.WidthLaws.{raised-is}
 use borrow.Author.Needs.{needs}
 use Rattle.plans.proofs.widths.reported.Statement.{statement}
 use Rattle.plans.proofs.widths.reported.Tie as tie
@@ -40,11 +42,11 @@ other-requires-2 c κs =
     (c0 .pre .0, omega (arith, ap shiftWidth (c .before .shift2 .given .1), c0 .pre .1))
 
 returns : tie.Need-returns
-unfolding equalWidth
 returns c =
     let c0 = c .before .before .before .before in
     let s = timedStreet (c0 .args .s) in
-    let e = c .surplus .ensures ∙ ap orZero (c0 .pre .0 .width) in
+    let fit = fit-sound (c0 .args .s) (c0 .pre .0 .sound) in
+    let e : c .surplus .result ≡ equalWidth s = omega (arith, c .surplus .ensures, equal-width s fit, raised-is (c0 .args .s) (c0 .args .raised) (c0 .pre .0)) in
     ap (λ (w : ℕ). widths w w) e ∙ sym (ap (λ x. widthsOf x s) (c .before .before .enum-told .given .1))
 
 returns-2 : tie.Need-returns-2

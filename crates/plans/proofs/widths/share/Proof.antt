@@ -1,13 +1,30 @@
 -- `plans::widths::share` meets its contract: the two tests, with B raised, take the rule's three cases, and 2B times the longest platoon fits 32 bits. Assumes nothing.
-use Prim.Native.Nat.{ℕ, min}
-use mathlib.Core.Path.{ap, _∙_}
+use Prim.Native.Nat.{ℕ, _-_, _*_, _/_, min}
+use mathlib.Core.Path.{_≡_, sym, ap, ap₂, _∙_}
 use native.Mathlib.Omega.{arith}
+use Rattle.circle.specs.Method.{Timed, halves}
+use Rattle.circle.proofs.Raised.{Fit}
+use Rattle.circle.proofs.Moving.{B⁺, green, green-is}
+use Rattle.circle.proofs.Platoons.{platoons-fit, platoons-crowd, platoons-rest}
 use Rattle.street.specs.Streets.{timedStreet}
-use Rattle.circle.proofs.Choices.{min-is}
-use Rattle.plans.proofs.WidthLaws.{platoons-fit, platoons-crowd, platoons-rest, product-fits}
+use Rattle.search.proofs.Leading.{fit-sound}
+use Rattle.plans.proofs.WidthLaws.{raised-is, product-fits}
 use borrow.Author.Needs.{needs}
 use Rattle.plans.proofs.widths.share.Statement.{statement}
 use Rattle.plans.proofs.widths.share.Tie as tie
+
+-- the street's numbers once g is out, g itself, and B raised
+abbrev numbers : tie.After-widest → Timed
+numbers c = timedStreet (c .before .before .args .s)
+
+fit : (c : tie.After-widest) → Fit (numbers c)
+fit c = fit-sound (c .before .before .args .s) (c .before .before .pre .0 .sound)
+
+most-is : (c : tie.After-widest) → c .widest .result ≡ green (numbers c)
+most-is c = green-is (numbers c) (fit c) (c .widest .result) (c .widest .ensures)
+
+B-is : (c : tie.After-widest) → c .before .before .args .raised ≡ B⁺ (numbers c)
+B-is c = raised-is (c .before .before .args .s) (c .before .before .args .raised) (c .before .before .pre .0)
 
 mul-h : tie.Need-mul-h
 mul-h c = search needs
@@ -43,12 +60,13 @@ smaller-requires c κs = search needs
 
 returns : tie.Need-returns
 returns c =
-    let c0 = c .before .before .before .before .before in
-    let s = timedStreet (c0 .args .s) in
-    let g = c .before .before .before .widest in
-    min-is (c .before .portion .result) (g .result) (c .smaller .result) (c .smaller .ensures)
-    ∙ ap (λ (x : ℕ). min x (g .result)) (c .before .portion .ensures)
-    ∙ platoons-fit s (c0 .args .raised) (g .result) (c0 .pre .0 .width) (g .ensures) (c0 .args .longer) (c0 .args .sum) (c .before .before .if1 .taken)
+    let c1 = c .before .before .before in
+    let s = numbers c1 in
+    let L = c1 .before .before .args .longer in
+    let T = c1 .before .before .args .sum in
+    c .smaller .ensures
+    ∙ ap₂ min (c .before .portion .ensures ∙ ap (λ (b : ℕ). (2 * b - 2 * halves s) * L / T) (B-is c1)) (most-is c1)
+    ∙ sym (platoons-fit s (fit c1) L T (omega (arith, B-is c1)))
 
 smaller-requires-2 : tie.Need-smaller-requires-2
 smaller-requires-2 c κs = search needs
@@ -62,24 +80,22 @@ mul-if2-2 c = search needs
 add-if2 : tie.Need-add-if2
 add-if2 c =
     let c0 = c .before .before .before .before in
-    let w = min-is (c0 .args .longer) (c .before .before .widest .result) (c .smaller2 .result) (c .smaller2 .ensures) in
-    omega (arith, c0 .pre .1, c0 .pre .0 .sound .longest)
+    omega (arith, c .smaller2 .ensures, c0 .pre .1, c0 .pre .0 .sound .longest)
 
 returns-2 : tie.Need-returns-2
 returns-2 c =
-    let c0 = c .before .before .before .before .before in
-    let s = timedStreet (c0 .args .s) in
-    let g = c .before .before .before .widest in
-    let w = min-is (c0 .args .longer) (g .result) (c .before .smaller2 .result) (c .before .smaller2 .ensures) in
-    platoons-crowd s (c0 .args .raised) (g .result) (c0 .pre .0 .width) (g .ensures) (c0 .args .longer) (c0 .args .sum) (c .before .before .if1 .left) (omega arith)
+    let c1 = c .before .before .before in
+    let a = c1 .before .before .args in
+    most-is c1
+    ∙ sym (platoons-crowd (numbers c1) (fit c1) (a .longer) (a .sum) (omega (arith, B-is c1)) (omega (arith, B-is c1, most-is c1, c .before .smaller2 .ensures)))
 
 returns-3 : tie.Need-returns-3
 returns-3 c =
-    let c0 = c .before .before .before .before .before in
-    let s = timedStreet (c0 .args .s) in
-    let g = c .before .before .before .widest in
-    let w = min-is (c0 .args .longer) (g .result) (c .before .smaller2 .result) (c .before .smaller2 .ensures) in
-    w ∙ platoons-rest s (c0 .args .raised) (g .result) (c0 .pre .0 .width) (g .ensures) (c0 .args .longer) (c0 .args .sum) (c .before .before .if1 .left) (omega arith)
+    let c1 = c .before .before .before in
+    let a = c1 .before .before .args in
+    c .before .smaller2 .ensures
+    ∙ ap (min (a .longer)) (most-is c1)
+    ∙ sym (platoons-rest (numbers c1) (fit c1) (a .longer) (a .sum) (omega (arith, B-is c1)) (omega (arith, B-is c1, most-is c1, c .before .smaller2 .ensures)))
 
 pub share-spec : {M : Type 1} → statement M
 share-spec =
