@@ -10,8 +10,9 @@ use Rattle.circle.specs.Bands.{Way}
 abbrev pub since : Way → ℕ → ℕ → ℕ
 since w x j = man (w .around) (pos (x + w .lag j) -ℤ pos (w .start j + w .length j))
 
--- k departures from x on pass every signal that has a red before that red comes round again
+-- k departures from x on, at most the cycle, pass every signal that has a red before that red comes round again
 pub record Passes (w : Way) (x k : ℕ) : Type 0 where
+  pub most : k ≤ w .around
   pub each : (j : ℕ) → j < w .signals → 0 < w .length j → since w x j + k + w .length j ≤ w .around
 
 -- a width that keeps to a bound where there is one keeps to it

@@ -7,12 +7,12 @@ use native.Mathlib.Omega.{arith}
 use Rattle.circle.specs.Method.{Timed, halves, reference, equalWidth, redEnd, redStart}
 use Rattle.circle.specs.Bands.{Way, outboundWay, inboundWay}
 use Rattle.circle.specs.Moved.{otherWidth}
-use Rattle.circle.proofs.Raised.{Fit}
+use Rattle.circle.proofs.Raised.{Fit, B⁺}
 use Rattle.circle.proofs.Arcs.{Passes, where-some}
-use Rattle.circle.proofs.Since.{Stops, Rising}
-use Rattle.circle.proofs.Bound.{bound}
+use Rattle.circle.proofs.Since.{Rising}
+use Rattle.circle.proofs.Bound.{Bounded}
 use Rattle.circle.proofs.Reflection.{Patterned, likes}
-use Rattle.circle.proofs.Moving.{B⁺, equal-width, other-width}
+use Rattle.circle.proofs.Moving.{equal-width, other-width}
 use Rattle.circle.proofs.Named.{Bands, meets}
 
 -- k departures pass from some instant on, and never more
@@ -20,12 +20,12 @@ pub record Widest (w : Way) (k : ℕ) : Type 0 where
   pub has : (x : ℕ) × (x < w .around) × Passes w x k
   pub most : (x v : ℕ) → Passes w x v → v ≤ k
 
-module _ (s : Timed) (fit : Fit s) (stops : Stops s) (rising : Rising s) where
+module _ (s : Timed) (fit : Fit s) (two : Bounded s) (rising : Rising s) where
   -- under any offsets the smaller band is at most B
   pub equal-best : (f : ℕ → ℕ) (x y v v′ : ℕ) → Passes (outboundWay s f) x v → Passes (inboundWay s f) y v′ → min v v′ ≤ equalWidth s
   equal-best f x y v v′ out back =
       where-some (min v v′) (equalWidth s)
-      (λ some. omega (arith, bound s fit stops rising f x y v v′ (omega arith) out back, equal-width s fit))
+      (λ some. omega (arith, two f x y v v′ (omega arith) out back, equal-width s fit))
 
   -- of two bands one of w or more leaves the other what is left of 2B
   module _ (f : ℕ → ℕ) (w v v′ : ℕ) (some : 1 ≤ w) (out : 1 ≤ v → (x : ℕ) × Passes (outboundWay s f) x v) (back : 1 ≤ v′ → (y : ℕ) × Passes (inboundWay s f) y v′) where
@@ -33,7 +33,7 @@ module _ (s : Timed) (fit : Fit s) (stops : Stops s) (rising : Rising s) where
     together l l′ =
         let (x, p) = out l in
         let (y, q) = back l′ in
-        bound s fit stops rising f x y v v′ (omega arith) p q
+        two f x y v v′ (omega arith) p q
 
     pub beside : (w ≤ v → v′ ≤ otherWidth s w) × (w ≤ v′ → v ≤ otherWidth s w)
     beside =
@@ -59,6 +59,6 @@ module _ (s : Timed) (fit : Fit s) (stops : Stops s) (rising : Rising s) where
       let (y, ly, to) = meets (inboundWay s f) c (redStart s c (f c)) v′ around in
       let out = named .out .passes x from some in
       let back = named .back .passes y to some′ in (
-        record { has = (x, lx, out); most = λ z k p. omega (arith, bound s fit stops rising f z y k v′ (omega arith) p back) },
-        record { has = (y, ly, back); most = λ z k p. omega (arith, bound s fit stops rising f x z v k (omega arith) out p) },
+        record { has = (x, lx, out); most = λ z k p. omega (arith, two f z y k v′ (omega arith) p back) },
+        record { has = (y, ly, back); most = λ z k p. omega (arith, two f x z v k (omega arith) out p) },
       )

@@ -15,9 +15,9 @@ use Rattle.circle.specs.Method.{Timed, halves, B}
 use Rattle.circle.specs.Bands.{outboundWay, inboundWay}
 use Rattle.circle.proofs.Signed.{sub-eq, pos-sub, add-sub, le-sub}
 use Rattle.circle.proofs.Man.{Turns}
-use Rattle.circle.proofs.Over.{maxBelow, min-from, max-ge}
+use Rattle.circle.proofs.Over.{min-from, max-ge}
 use Rattle.circle.proofs.Method.{u-is}
-use Rattle.circle.proofs.Raised.{Fit, raised, larger-raised, top, b⁺, B-raised}
+use Rattle.circle.proofs.Raised.{Fit, raised, larger-raised, top, b⁺, B⁺, B-raised}
 use Rattle.circle.proofs.Arcs.{since, Passes}
 use Rattle.circle.proofs.Since.{Stops, Rising, since-turns}
 
@@ -142,25 +142,29 @@ module _ (s : Timed) (fit : Fit s) (rising : Rising s) (f : ℕ → ℕ) (x y v 
       let m = least-where (s .signals) (s .red) (κ s f x y) k l r in
       (m .at, m .below, m .counts, λ j lj rj. reaches (m .at) j (m .below) lj (m .counts) rj (m .least j lj rj))
 
-module _ (s : Timed) (fit : Fit s) (stops : Stops s) (rising : Rising s) (f : ℕ → ℕ) where
-  -- under any offsets the two bands together, raised by two cycles, are at most twice the raised B
-  pub bound : (x y v v′ : ℕ) → 1 ≤ v + v′ → Passes (outboundWay s f) x v → Passes (inboundWay s f) y v′ → v + v′ + 2 * halves s ≤ 2 * maxBelow (s .signals) (b⁺ s)
-  unfolding b⁺
-  bound x y v v′ some out back =
-      let first : 0 < s .signals = fit .some in
-      let (i, l, r, each) = widest s fit rising f x y v v′ some out back 0 first (stops 0 first) in
-      let most = max-ge (s .signals) (b⁺ s) i l in
-      let half = (v + v′ + 2 * halves s + 1) / 2 in
-      let least = min-from (4 * s .cycle) (s .signals) (larger-raised s i) half (omega (arith, each i l r, top s fit i i l)) (λ j h. omega (arith, each j h (stops j h))) in
-      omega arith
+-- any two bands, one each way and under any offsets, raised by two cycles: together at most twice the raised B
+abbrev pub Bounded : Timed → Type 0
+Bounded s =
+    (f : ℕ → ℕ) (x y v v′ : ℕ) → 1 ≤ v + v′ → Passes (outboundWay s f) x v → Passes (inboundWay s f) y v′ → v + v′ + 2 * halves s ≤ 2 * B⁺ s
 
-  pub bound-signed : (x y v v′ : ℕ) → 1 ≤ v + v′ → Passes (outboundWay s f) x v → Passes (inboundWay s f) y v′ → leℤ (pos (v + v′)) (B s +ℤ B s) ≡ true
-  bound-signed x y v v′ some out back =
-      let Bp = maxBelow (s .signals) (b⁺ s) in
-      let H = halves s in
-      let most : v + v′ + 2 * H ≤ Bp + Bp = omega (arith, bound x y v v′ some out back) in
-      ap₂ leℤ
-      (pos-sub (v + v′) ∙ sub-eq (v + v′) 0 (v + v′ + 2 * H) (H + H) (omega arith))
-      (ap₂ _+ℤ_ (B-raised s fit) (B-raised s fit) ∙ add-sub Bp H Bp H)
-      ∙ le-sub (v + v′ + 2 * H) (Bp + Bp) (H + H)
-      ∙ le-leb (v + v′ + 2 * H) (Bp + Bp) most
+-- they are so where each signal, every one of which B counts, has a red
+pub bound : (s : Timed) → Fit s → Stops s → Rising s → Bounded s
+unfolding b⁺
+bound s fit stops rising f x y v v′ some out back =
+    let first : 0 < s .signals = fit .some in
+    let (i, l, r, each) = widest s fit rising f x y v v′ some out back 0 first (stops 0 first) in
+    let most = max-ge (s .signals) (b⁺ s) i l in
+    let half = (v + v′ + 2 * halves s + 1) / 2 in
+    let least = min-from (4 * s .cycle) (s .signals) (larger-raised s i) half (omega (arith, each i l r, top s fit i i l)) (λ j h. omega (arith, each j h (stops j h))) in
+    omega arith
+
+pub bound-signed : (s : Timed) → Fit s → Bounded s → (f : ℕ → ℕ) (x y v v′ : ℕ) → 1 ≤ v + v′ → Passes (outboundWay s f) x v → Passes (inboundWay s f) y v′ → leℤ (pos (v + v′)) (B s +ℤ B s) ≡ true
+bound-signed s fit two f x y v v′ some out back =
+    let Bp = B⁺ s in
+    let H = halves s in
+    let most : v + v′ + 2 * H ≤ Bp + Bp = omega (arith, two f x y v v′ some out back) in
+    ap₂ leℤ
+    (pos-sub (v + v′) ∙ sub-eq (v + v′) 0 (v + v′ + 2 * H) (H + H) (omega arith))
+    (ap₂ _+ℤ_ (B-raised s fit) (B-raised s fit) ∙ add-sub Bp H Bp H)
+    ∙ le-sub (v + v′ + 2 * H) (Bp + Bp) (H + H)
+    ∙ le-leb (v + v′ + 2 * H) (Bp + Bp) most

@@ -112,7 +112,7 @@ start-attains w proper j lj red one =
     let band = band-starts w proper one in
     let ending = starts-ending w proper j lj red (bandStart w) one (band .passes) in
     let is = end-is w proper (bandStart w) (ending .signal) (band .below) (ending .ends) in
-    let enough = longest-ge w (bandStart w) (width w) (width-le w) (band .passes) in
+    let enough = longest-ge w (bandStart w) (width w) (band .passes) in
     record {
       signal = ending .signal;
       below = ending .below;
@@ -153,16 +153,15 @@ best-band w proper j lj red v x best = go (width w) refl v refl
         let whole : longest w (endAt w (h .signal)) ≡ width w = h .as-wide ∙ same in
         let some : 1 ≤ longest w (endAt w (h .signal)) = omega arith in
         let p = longest-passes w proper (endAt w (h .signal)) some in
-        let p′ : Passes w (endAt w (h .signal)) (width w) = record { each = λ i l r. omega (arith, p .each i l r, whole) } in
+        let p′ : Passes w (endAt w (h .signal)) (width w) = record { most = width-le w; each = λ i l r. omega (arith, p .each i l r, whole) } in
         let later = band-starts w proper one .least (endAt w (h .signal)) (end-lt w proper (h .signal)) p′ in
         record { wide = same; starts = omega (arith, c .starts, h .starts, sooner, later) }
 
 -- where no signal has a red, every departure is clear
 pub no-red : (w : Way) → Proper w → ((j : ℕ) → j < w .signals → w .length j ≡ 0) → IsBand w (w .around) 0
 no-red w proper none =
-    let open-way : (k : ℕ) → Passes w 0 k = λ k. record { each = λ j l red. absurd (omega (arith, none j l)) } in
-    let some : 1 ≤ w .around = omega (arith, proper .turns) in
-    let wide = width-ge w proper 0 (w .around) some (omega arith) (open-way (w .around)) in
+    let open-way : (k : ℕ) → k ≤ w .around → Passes w 0 k = λ k l. record { most = l; each = λ j l red. absurd (omega (arith, none j l)) } in
+    let wide = width-ge w proper 0 (w .around) (open-way (w .around) (omega arith)) in
     let most = width-le w in
-    let band = band-starts w proper (omega arith) in
-    record { wide = omega arith; starts = omega (arith, band .least 0 (proper .turns) (open-way (width w))) }
+    let band = band-starts w proper (omega (arith, proper .turns)) in
+    record { wide = omega arith; starts = omega (arith, band .least 0 (proper .turns) (open-way (width w) most)) }

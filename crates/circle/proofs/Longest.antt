@@ -27,9 +27,10 @@ longest w x = greatestUpTo (w .around) (stretch w x)
 abbrev pub left : Way → ℕ → ℕ → ℕ
 left w x j = cond (ltb 0 (w .length j)) (w .around - (w .length j + since w x j)) (w .around)
 
-left-passes : (w : Way) (x k : ℕ) → 1 ≤ k → ((j : ℕ) → j < w .signals → k ≤ left w x j) → Passes w x k
-left-passes w x k one each =
+left-passes : (w : Way) (x k : ℕ) → 1 ≤ k → k ≤ w .around → ((j : ℕ) → j < w .signals → k ≤ left w x j) → Passes w x k
+left-passes w x k one most each =
     record {
+      most = most;
       each =
           λ j lj red.
           let is : left w x j ≡ w .around - (w .length j + since w x j) =
@@ -37,8 +38,8 @@ left-passes w x k one each =
           omega (arith, is, each j lj);
     }
 
-passes-left : (w : Way) (x k : ℕ) → k ≤ w .around → Passes w x k → (j : ℕ) → j < w .signals → k ≤ left w x j
-passes-left w x k l p j lj = go (decLt 0 (w .length j))
+passes-left : (w : Way) (x k : ℕ) → Passes w x k → (j : ℕ) → j < w .signals → k ≤ left w x j
+passes-left w x k p j lj = go (decLt 0 (w .length j))
   where
     go : Dec (0 < w .length j) → k ≤ left w x j
     go (yes red) =
@@ -49,22 +50,23 @@ passes-left w x k l p j lj = go (decLt 0 (w .length j))
         let rest : w .length j ≤ 0 = omega arith in
         let is : left w x j ≡ w .around =
         ap (λ t. cond t (w .around - (w .length j + since w x j)) (w .around)) (le-ltb 0 (w .length j) rest) in
-        omega (arith, is)
+        omega (arith, is, p .most)
 
 -- the longest stretch from an instant is the least that any signal leaves
 pub longest-least : (w : Way) → Proper w → (x : ℕ) → longest w x ≡ minBelow (w .around) (w .signals) (left w x)
 longest-least w proper x =
     let v = minBelow (w .around) (w .signals) (left w x) in
-    greatest-is (w .around) (stretch w x) v (min-le (w .around) (w .signals) (left w x))
-    (λ one. passes-stretch w x v (left-passes w x v one (λ j lj. min-at (w .around) (w .signals) (left w x) j lj)))
-    (λ k one l e. min-from (w .around) (w .signals) (left w x) k l (passes-left w x k l (stretch-passes w proper x k one e)))
+    let low = min-le (w .around) (w .signals) (left w x) in
+    greatest-is (w .around) (stretch w x) v low
+    (λ one. passes-stretch w x v (left-passes w x v one low (λ j lj. min-at (w .around) (w .signals) (left w x) j lj)))
+    (λ k one l e. min-from (w .around) (w .signals) (left w x) k l (passes-left w x k (stretch-passes w proper x k one l e)))
 
 pub longest-passes : (w : Way) → Proper w → (x : ℕ) → 1 ≤ longest w x → Passes w x (longest w x)
 longest-passes w proper x one =
-    stretch-passes w proper x (longest w x) one (greatest-passes (w .around) (stretch w x) one)
+    stretch-passes w proper x (longest w x) one (greatest-le (w .around) (stretch w x)) (greatest-passes (w .around) (stretch w x) one)
 
-pub longest-ge : (w : Way) (x k : ℕ) → k ≤ w .around → Passes w x k → k ≤ longest w x
-longest-ge w x k l p = greatest-ge (w .around) (stretch w x) k l (passes-stretch w x k p)
+pub longest-ge : (w : Way) (x k : ℕ) → Passes w x k → k ≤ longest w x
+longest-ge w x k p = greatest-ge (w .around) (stretch w x) k (p .most) (passes-stretch w x k p)
 
 -- no stretch is longer than the band
 pub longest-width : (w : Way) → Proper w → (x : ℕ) → longest w x ≤ width w
@@ -74,12 +76,13 @@ longest-width w proper x = go (longest w x) refl
     go zero e = omega arith
     go (suc v) e =
         let one : 1 ≤ longest w x = omega arith in
-        width-ge w proper x (longest w x) one (greatest-le (w .around) (stretch w x)) (longest-passes w proper x one)
+        width-ge w proper x (longest w x) (longest-passes w proper x one)
 
 -- a stretch that starts at least d after every red ended may start d sooner
-pub passes-sooner : (w : Way) → Proper w → (x k d : ℕ) → d ≤ w .around → ((j : ℕ) → j < w .signals → 0 < w .length j → d ≤ since w x j) → Passes w x k → Passes w (x + (w .around - d)) (k + d)
+pub passes-sooner : (w : Way) → Proper w → (x k d : ℕ) → k + d ≤ w .around → ((j : ℕ) → j < w .signals → 0 < w .length j → d ≤ since w x j) → Passes w x k → Passes w (x + (w .around - d)) (k + d)
 passes-sooner w proper x k d l later p =
     record {
+      most = l;
       each =
           λ j lj red.
           let end = w .start j + w .length j in
@@ -165,7 +168,7 @@ starts-ending w proper j lj red x one p = go (soonest-or w x (w .signals))
         let d = since w x (s .signal) in
         let fits : d + width w + w .length (s .signal) ≤ w .around = p .each (s .signal) (s .below) (s .red) in
         let sooner = passes-sooner w proper x (width w) d (omega arith) (s .least) p in
-        let most = width-ge w proper (x + (w .around - d)) (width w + d) (omega arith) (omega arith) sooner in
+        let most = width-ge w proper (x + (w .around - d)) (width w + d) sooner in
         record { signal = s .signal; below = s .below; red = s .red; ends = omega arith }
 
 -- the instant at the departure signal that comes to signal i as its red ends

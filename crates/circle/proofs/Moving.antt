@@ -15,12 +15,8 @@ use Rattle.circle.proofs.Signed.{sub-eq, pos-sub, pos-minus, pos-less, 
 use Rattle.circle.proofs.Man.{Turns, man-turns}
 use Rattle.circle.proofs.Over.{minBelow, maxBelow, min-le, min-at, min-from, least-raised}
 use Rattle.circle.proofs.Method.{u-is, u-range}
-use Rattle.circle.proofs.Raised.{Fit, b⁺, B-raised, low}
+use Rattle.circle.proofs.Raised.{Fit, b⁺, B⁺, B-raised, low}
 use Rattle.circle.proofs.Reference.{reference-first, u-turns, leaves, phase-own}
-
--- B, raised by the cycle
-abbrev pub B⁺ : Timed → ℕ
-B⁺ s = maxBelow (s .signals) (b⁺ s)
 
 -- g: the shortest green
 abbrev pub green : Timed → ℕ

@@ -86,7 +86,9 @@ module _ (s : Timed) (fit : Fit s) (rising : Rising s) (f δ : ℕ → ℕ) (low
   -- the bands pass where each signal has room
   pub bands : (v v′ : ℕ) → (1 ≤ v → (j : ℕ) → j < s .signals → Room s v j (δ j) (δ (reference s))) → (1 ≤ v′ → (j : ℕ) → j < s .signals → Room s v′ j (δ (reference s)) (δ j)) → Bands s f v v′
   bands v v′ room room′ =
+      let c = reference s in
+      let own-signal : c < s .signals = reference-first s fit .below in
       record {
-        out = record { passes = λ x from some. record { each = λ j l r. let m = room some j l in omega (arith, outbound-since x v j from l (omega arith) m) } };
-        back = record { passes = λ y to some. record { each = λ j l r. let m = room′ some j l in omega (arith, inbound-since y v′ j to l (omega arith) m) } };
+        out = record { passes = λ x from some. record { most = let m = room some c own-signal in omega (arith, m .before, m .after); each = λ j l r. let m = room some j l in omega (arith, outbound-since x v j from l (omega arith) m) } };
+        back = record { passes = λ y to some. record { most = let m = room′ some c own-signal in omega (arith, m .before, m .after); each = λ j l r. let m = room′ some j l in omega (arith, inbound-since y v′ j to l (omega arith) m) } };
       }

@@ -29,6 +29,7 @@ pub record Near (w z : Way) (a m : ℕ) : Type 0 where
 pub near-passes : (w z : Way) (a m x k : ℕ) → Near w z a m → m ≤ k → Passes w x k → Passes z (x + a) (k - m)
 near-passes w z a m x k n l passes =
     record {
+      most = omega (arith, passes .most, n .around);
       each =
           λ j h r.
           let c = n .each j h r in

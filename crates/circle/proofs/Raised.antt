@@ -27,6 +27,10 @@ larger-raised s i j = max (raised s i j 0) (raised s i j (s .cycle))
 unfoldable pub b⁺ : Timed → ℕ → ℕ
 b⁺ s i = minBelow (4 * s .cycle) (s .signals) (larger-raised s i)
 
+-- and B
+abbrev pub B⁺ : Timed → ℕ
+B⁺ s = maxBelow (s .signals) (b⁺ s)
+
 pub b⁺-le : (s : Timed) (i : ℕ) → b⁺ s i ≤ 4 * s .cycle
 unfolding b⁺
 b⁺-le s i = min-le (4 * s .cycle) (s .signals) (larger-raised s i)

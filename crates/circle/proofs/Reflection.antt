@@ -33,6 +33,7 @@ mirrored w a x k = man (w .around) (pos a -ℤ pos (x + k))
 pub reflect : (w : Way) (d d′ : ℕ → ℕ) (a x k : ℕ) → Mirror w d d′ a → Passes (along w d) x k → Passes (along w d′) (mirrored w a x k) k
 reflect w d d′ a x k m passes =
     record {
+      most = passes .most;
       each =
           λ j l r.
           let room = passes .each j l r in

@@ -14,11 +14,11 @@ use Rattle.circle.specs.Moved.{otherWidth}
 use Rattle.circle.proofs.Man.{Turns, man-lt, man-is, man-turns}
 use Rattle.circle.proofs.Over.{minBelow, maxBelow}
 use Rattle.circle.proofs.Method.{u-is, u-range}
-use Rattle.circle.proofs.Raised.{Fit, raised, larger-raised, b⁺, low}
+use Rattle.circle.proofs.Raised.{Fit, raised, larger-raised, b⁺, low, B⁺}
 use Rattle.circle.proofs.Arcs.{since, Passes}
 use Rattle.circle.proofs.Since.{along, Stops, Rising, since-turns, passes-at}
 use Rattle.circle.proofs.Reference.{u-turns}
-use Rattle.circle.proofs.Moving.{B⁺, equal-width, other-width}
+use Rattle.circle.proofs.Moving.{equal-width, other-width}
 use Rattle.circle.proofs.Reflection.{Patterned}
 pub use Rattle.circle.specs.Method.{inUnits as scaled}
 
@@ -152,6 +152,7 @@ pub record Finer (N : ℕ) (w z : Way) : Type 0 where
 pub finer-passes : (N : ℕ) (w z : Way) (x k : ℕ) → Finer N w z → Passes w x k → Passes z (N * x) (N * k)
 finer-passes N w z x k same passes =
     record {
+      most = omega (arith, same .around, mul-le-mul-left N (passes .most));
       each =
           λ j h r.
           let l : j < w .signals = omega (arith, same .signals) in

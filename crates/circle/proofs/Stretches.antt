@@ -70,11 +70,12 @@ passes-stretch w x k p =
         passed-clear (w .around) (x + w .lag j) (w .start j) (w .length j) k i (x + i + w .lag j) (p .each j lj red) li (omega arith)
     one i li j lj (no none) = omega arith
 
--- and a stretch of 1 or more gives the working form
-pub stretch-passes : (w : Way) → Proper w → (x k : ℕ) → 1 ≤ k → stretch w x k ≡ true → Passes w x k
+-- and a stretch from 1 up to the cycle gives the working form
+pub stretch-passes : (w : Way) → Proper w → (x k : ℕ) → 1 ≤ k → k ≤ w .around → stretch w x k ≡ true → Passes w x k
 unfolding stretch clear
-stretch-passes w proper x k one e =
+stretch-passes w proper x k one most e =
     record {
+      most = most;
       each =
           λ j lj red.
           clear-passed (w .around) (x + w .lag j) (w .start j) (w .length j) k (proper .turns) red (proper .fits j lj) one
@@ -93,15 +94,15 @@ since-turns w proper x y j t =
     (record { p = c .p + t .q; q = c .q + t .p; eq = omega (arith, c .eq, t .eq) })
 
 -- the width is at least the length of any stretch
-pub width-ge : (w : Way) → Proper w → (x k : ℕ) → 1 ≤ k → k ≤ w .around → Passes w x k → k ≤ width w
+pub width-ge : (w : Way) → Proper w → (x k : ℕ) → Passes w x k → k ≤ width w
 unfolding width
-width-ge w proper x k one l p =
+width-ge w proper x k p =
     let M = w .around in
     let y : ℕ = x % M in
     let turn : Turns M y x = record { p = x / M; q = 0; eq = omega (arith, mod-add-div' x M) } in
     let p′ : Passes w y k =
-    record { each = λ j lj red. omega (arith, since-turns w proper y x j turn, p .each j lj red) } in
-    greatest-ge M (λ v. someBelow M (λ z. stretch w z v)) k l
+    record { most = p .most; each = λ j lj red. omega (arith, since-turns w proper y x j turn, p .each j lj red) } in
+    greatest-ge M (λ v. someBelow M (λ z. stretch w z v)) k (p .most)
     (some-true M (λ z. stretch w z k) y (mod-lt x (proper .turns)) (passes-stretch w y k p′))
 
 pub width-le : (w : Way) → width w ≤ w .around
@@ -127,7 +128,7 @@ band-starts w proper one =
     let found = first-where (w .around) (λ z. stretch w z (width w)) (attained w one) in
     record {
       below = found .below;
-      passes = stretch-passes w proper (indexOf (firstBelow (w .around) (λ z. stretch w z (width w)))) (width w) one (found .passes);
+      passes = stretch-passes w proper (indexOf (firstBelow (w .around) (λ z. stretch w z (width w)))) (width w) one (width-le w) (found .passes);
       least = λ y l p. found .least y l (passes-stretch w y (width w) p);
     }
 

@@ -17,10 +17,10 @@ use Rattle.circle.specs.Moved.{chosen, lowered}
 use Rattle.circle.proofs.Over.{getD-listBelow}
 use Rattle.circle.proofs.Man.{man-lt, man-is, man-turns}
 use Rattle.circle.proofs.Method.{reference-lt}
-use Rattle.circle.proofs.Raised.{Fit}
+use Rattle.circle.proofs.Raised.{Fit, B⁺}
 use Rattle.circle.proofs.Reference.{phase-test}
 use Rattle.circle.proofs.Reflection.{offset-turns}
-use Rattle.circle.proofs.Moving.{B⁺, outbound-lowering, inbound-lowering}
+use Rattle.circle.proofs.Moving.{outbound-lowering, inbound-lowering}
 use Rattle.street.specs.Limits.{maxTime}
 use Rattle.street.specs.Streets.{timedStreet, Sound}
 use Rattle.street.specs.declared.Street.{Street}

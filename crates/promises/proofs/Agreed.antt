@@ -19,6 +19,7 @@ module _ (s : Timed) (f g : ℕ → ℕ) (same : (j : ℕ) → j < s .signals �
         passes =
             λ x at-c some.
             record {
+              most = named .passes x at-c some .most;
               each =
                   λ j l r.
                   subst (λ (z : ℕ). man (halves s) (pos (x + lag j) -ℤ pos (redStart s j z + 2 * s .red j)) + v + 2 * s .red j ≤ halves s) (sym (same j l)) (named .passes x at-c some .each j l r);

@@ -6,8 +6,8 @@ use mathlib.Core.Path.{_≡_}
 use native.Mathlib.Omega.{arith}
 use Rattle.circle.specs.Bands.{Way, outboundWay, inboundWay}
 use Rattle.circle.proofs.Raised.{Fit}
-use Rattle.circle.proofs.Since.{along, Stops, Rising}
-use Rattle.circle.proofs.Scale.{scaled, fit-scaled, stops-scaled, rising-scaled, Finer, outbound-finer, inbound-finer}
+use Rattle.circle.proofs.Since.{along, Rising}
+use Rattle.circle.proofs.Scale.{scaled, fit-scaled, rising-scaled, Finer, outbound-finer, inbound-finer}
 use Rattle.street.specs.Lists.{Lists, signals}
 use Rattle.street.specs.Checks.{planChecks}
 use Rattle.street.specs.Times.{linkTicks, roundedLink, m, timed}
@@ -16,7 +16,7 @@ use Rattle.street.proofs.Passed.{clear}
 use Rattle.street.proofs.Nearest.{link-near, out-marked, back-marked}
 use Rattle.promises.specs.Exact.{Fine, exactLink, exactTo}
 use Rattle.promises.proofs.Windows.{Window, from-first, to-last}
-pub use Rattle.promises.proofs.Streets.{fit, stops, rising}
+pub use Rattle.promises.proofs.Streets.{fit, bounded, bounded-fine, rising}
 
 -- the way through a street at rounded times, counted in the fine unit, under offsets f
 abbrev pub countedWay : Lists → ℕ → (ℕ → ℕ) → (ℕ → ℕ) → Way
@@ -32,9 +32,6 @@ module _ (l : Lists) (room : ℕ) (passed : planChecks l room ≡ Passed) where
     -- the street in the fine unit
     pub fit-fine : Fit (scaled N (timed l))
     fit-fine = fit-scaled N (timed l) (fine .some) (fit l room passed)
-
-    pub stops-fine : Stops (scaled N (timed l))
-    stops-fine = stops-scaled N (timed l) (fine .some) (fit l room passed) (stops l room passed)
 
     pub rising-fine : Rising (scaled N (timed l))
     rising-fine = rising-scaled N (timed l) (fine .some) (fit l room passed) (rising l room passed)

@@ -7,7 +7,7 @@ use Rattle.circle.specs.Method.{reference, redEnd, redStart}
 use Rattle.street.specs.Times.{timed}
 use Rattle.plans.specs.Moved.{shiftOf, outboundWidth, inboundWidth}
 use Rattle.promises.specs.Replies.{BandsKept, ReplyBands}
-use Rattle.promises.proofs.Streets.{fit, stops, rising}
+use Rattle.promises.proofs.Streets.{fit, bounded, bounded-fine, rising}
 use Rattle.promises.proofs.Widths.{bands-least, bands-measured}
 use Rattle.promises.proofs.Rounded.{bands-clear}
 use Rattle.promises.proofs.Moved.{moved-bands, firm-most}
@@ -21,13 +21,13 @@ reply-bands asked l entry exit r call code =
     let told = reply-told asked l entry exit r call code in
     let g : ℕ → ℕ = λ j. getD exit j 0 in
     let ok = fit l (length entry) (told .passed) in
-    let red = stops l (length entry) (told .passed) in
+    let two = bounded l (length entry) (told .passed) in
     let rise = rising l (length entry) (told .passed) in
     let v = outboundWidth shift s in
     let v′ = inboundWidth shift s in
-    let named = moved-bands s ok red rise g shift (told .same) (told .range) in
+    let named = moved-bands s ok two rise g shift (told .same) (told .range) in
     let (out, back) = bands-clear s ok g v v′ named in
-    let (least, least′) = bands-least s ok red g v v′ named in
+    let (least, least′) = bands-least s ok g v v′ named in
     subst (λ p. BandsKept shift s g (p .reference - 1) (p .starts) (p .outbound) (p .ends) (p .inbound)) (told .numbers)
     (subst (λ (k : ℕ). BandsKept shift s g k (redEnd s c (g c)) v (redStart s c (g c)) v′) (counted c)
-    (out, back, least, least′, λ firm. bands-measured s ok red g v v′ named (firm-most s ok red rise g shift (told .same) (told .range) firm)))
+    (out, back, least, least′, λ firm. bands-measured s ok g v v′ named (firm-most s ok two rise g shift (told .same) (told .range) firm)))

@@ -12,14 +12,15 @@ use Rattle.circle.specs.Method.{Timed, inUnits, reference, phase, offset, equal
 use Rattle.circle.specs.Bands.{width, outboundWay, inboundWay}
 use Rattle.circle.specs.Moved.{otherWidth, platoonWidth}
 use Rattle.circle.proofs.Raised.{Fit}
-use Rattle.circle.proofs.Since.{Stops, Rising}
+use Rattle.circle.proofs.Since.{Rising}
+use Rattle.circle.proofs.Bound.{Bounded}
 use Rattle.circle.proofs.Moving.{other-width}
 use Rattle.circle.proofs.Named.{Bands}
 use Rattle.circle.proofs.Planned.{equal-bands, outbound-bands, inbound-bands}
 use Rattle.circle.proofs.Best.{beside, neither, fill}
 use Rattle.circle.proofs.Reflection.{Patterned, offset-patterned}
 use Rattle.circle.proofs.Platoons.{platoons-range}
-use Rattle.circle.proofs.Scale.{fit-scaled, stops-scaled, rising-scaled, other-scaled}
+use Rattle.circle.proofs.Scale.{fit-scaled, rising-scaled, other-scaled}
 use Rattle.street.specs.Times.{timed}
 use Rattle.plans.proofs.EqualLaws.{unmoved-offset}
 use Rattle.plans.specs.Moved.{platoonShift, movedOffset, outboundWidth, inboundWidth}
@@ -27,12 +28,12 @@ use Rattle.plans.specs.declared.widths.Shift.{Shift}
 use Rattle.plans.specs.declared.widths.Shift.the-variants.{Unmoved, Outbound, Inbound}
 use Rattle.promises.specs.Rounded.{OnStreets}
 use Rattle.promises.specs.Moved.{InRange, PlatoonsInRange, Firm, MovedClear, MovedMeasured, AsWideAsReported, NoneBesides}
-use Rattle.promises.proofs.Streets.{fit, stops, rising}
+use Rattle.promises.proofs.Streets.{fit, bounded, bounded-fine, rising}
 use Rattle.promises.proofs.Widths.{proper-way, width-passes, NoneLonger, bands-least, bands-measured}
 use Rattle.promises.proofs.Agreed.{bands-same, pattern-same}
 use Rattle.promises.proofs.Rounded.{bands-clear}
 
-module _ (s : Timed) (ok : Fit s) (red : Stops s) (rise : Rising s) where
+module _ (s : Timed) (ok : Fit s) (two : Bounded s) (rise : Rising s) where
   -- offsets that are a plan's at every signal have its named bands, as wide as reported
   module _ (g : ℕ → ℕ) where
     -- where nothing is moved these are the equal plan's own
@@ -54,12 +55,12 @@ module _ (s : Timed) (ok : Fit s) (red : Stops s) (rise : Rising s) where
 
     -- and no stretch is longer than its firm widths: two that are both above 0 make up 2B
     pub firm-most : (shift : Shift) → ((j : ℕ) → j < s .signals → g j ≡ movedOffset shift s j) → InRange s shift → Firm shift (outboundWidth shift s) (inboundWidth shift s) → NoneLonger s g (outboundWidth shift s) (inboundWidth shift s)
-    firm-most Unmoved same range firm = neither s ok red rise (reference s) (phase s (reference s)) g (equal-pattern same)
+    firm-most Unmoved same range firm = neither s ok two rise (reference s) (phase s (reference s)) g (equal-pattern same)
     firm-most (Outbound w) same range (p, q) =
-        let (out, back) = fill s ok red rise g w (otherWidth s w) p q (omega (arith, other-width s ok w)) (moved-bands (Outbound w) same range) in
+        let (out, back) = fill s ok two rise g w (otherWidth s w) p q (omega (arith, other-width s ok w)) (moved-bands (Outbound w) same range) in
         (out .most, back .most)
     firm-most (Inbound w) same range (p, q) =
-        let (out, back) = fill s ok red rise g (otherWidth s w) w p q (omega (arith, other-width s ok w)) (moved-bands (Inbound w) same range) in
+        let (out, back) = fill s ok two rise g (otherWidth s w) w p q (omega (arith, other-width s ok w)) (moved-bands (Inbound w) same range) in
         (out .most, back .most)
 
   -- a plan's own offsets among them
@@ -68,12 +69,12 @@ module _ (s : Timed) (ok : Fit s) (red : Stops s) (rise : Rising s) where
 
   as-reported : AsWideAsReported s
   as-reported shift range =
-      bands-least s ok red (movedOffset shift s) (outboundWidth shift s) (inboundWidth shift s) (own-bands shift range)
+      bands-least s ok (movedOffset shift s) (outboundWidth shift s) (inboundWidth shift s) (own-bands shift range)
 
   moved-measured : MovedMeasured s
   moved-measured shift range firm =
       let f = movedOffset shift s in
-      bands-measured s ok red f (outboundWidth shift s) (inboundWidth shift s) (own-bands shift range) (firm-most f shift (λ j l. refl) range firm)
+      bands-measured s ok f (outboundWidth shift s) (inboundWidth shift s) (own-bands shift range) (firm-most f shift (λ j l. refl) range firm)
 
   platoons-asked : PlatoonsInRange s
   unfolding platoonShift
@@ -92,28 +93,28 @@ module _ (s : Timed) (ok : Fit s) (red : Stops s) (rise : Rising s) where
           (sym (ap₂ (λ t u. cond t Unmoved (cond u (Outbound (platoonWidth s P (P + Q))) (Inbound (platoonWidth s Q (P + Q))))) (ne-eqb P Q n) (le-ltb Q P l)))
           (platoons-range s ok Q (P + Q) (omega arith) (omega arith))
 
-  none-besides : NoneBesides s
-  none-besides N w f fine some =
+  none-besides : ((N : ℕ) → 0 < N → Bounded (inUnits N s)) → NoneBesides s
+  none-besides fine-two N w f fine some =
       let z = inUnits N s in
       let okz = fit-scaled N s fine ok in
       let out = outboundWay z f in
       let back = inboundWay z f in
       subst (λ (v : ℕ). (N * w ≤ width out → width back ≤ v) × (N * w ≤ width back → width out ≤ v)) (other-scaled N s fine ok w)
-      (beside z okz (stops-scaled N s fine ok red) (rising-scaled N s fine ok rise) f (N * w) (width out) (width back) (omega (arith, mul-le-mul-left N some)) (width-passes out (proper-way z f okz)) (width-passes back (proper-way z f okz)))
+      (beside z okz (fine-two N fine) (rising-scaled N s fine ok rise) f (N * w) (width out) (width back) (omega (arith, mul-le-mul-left N some)) (width-passes out (proper-way z f okz)) (width-passes back (proper-way z f okz)))
 
 pub moved-clear : OnStreets MovedClear
 moved-clear l room passed shift range =
     let s = timed l in
-    bands-clear s (fit l room passed) (movedOffset shift s) (outboundWidth shift s) (inboundWidth shift s) (own-bands s (fit l room passed) (stops l room passed) (rising l room passed) shift range)
+    bands-clear s (fit l room passed) (movedOffset shift s) (outboundWidth shift s) (inboundWidth shift s) (own-bands s (fit l room passed) (bounded l room passed) (rising l room passed) shift range)
 
 pub as-wide-as-reported : OnStreets AsWideAsReported
-as-wide-as-reported l room passed = as-reported (timed l) (fit l room passed) (stops l room passed) (rising l room passed)
+as-wide-as-reported l room passed = as-reported (timed l) (fit l room passed) (bounded l room passed) (rising l room passed)
 
 pub moved-measures : OnStreets MovedMeasured
-moved-measures l room passed = moved-measured (timed l) (fit l room passed) (stops l room passed) (rising l room passed)
+moved-measures l room passed = moved-measured (timed l) (fit l room passed) (bounded l room passed) (rising l room passed)
 
 pub platoons-in-range : OnStreets PlatoonsInRange
-platoons-in-range l room passed = platoons-asked (timed l) (fit l room passed) (stops l room passed) (rising l room passed)
+platoons-in-range l room passed = platoons-asked (timed l) (fit l room passed) (bounded l room passed) (rising l room passed)
 
 pub none-beside : OnStreets NoneBesides
-none-beside l room passed = none-besides (timed l) (fit l room passed) (stops l room passed) (rising l room passed)
+none-beside l room passed = none-besides (timed l) (fit l room passed) (bounded l room passed) (rising l room passed) (bounded-fine l room passed)

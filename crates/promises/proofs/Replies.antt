@@ -37,7 +37,7 @@ use Rattle.promises.specs.Moved.{InRange, Firm}
 use Rattle.promises.specs.Rounding.{Short, Exactly, NamedClear, NoneBetter, ReplyKeeps}
 use Rattle.promises.specs.Replies.{EqualIsMethod}
 use Rattle.plans.proofs.EqualLaws.{unmoved-offset}
-use Rattle.promises.proofs.Directions.{fit, stops, rising}
+use Rattle.promises.proofs.Directions.{fit, bounded, rising}
 use Rattle.promises.proofs.Moved.{equal-pattern, moved-bands, platoons-in-range}
 use Rattle.promises.proofs.Rounding.{beats, falls, kept}
 use Rattle.promises.proofs.Whole.{equal-exactly, filled, moved-exact}
@@ -153,13 +153,13 @@ none-better (Inbound w) l room N passed fine range = λ none. moved-exact l room
 module _ (l : Lists) (room N : ℕ) (g : ℕ → ℕ) (passed : planChecks l room ≡ Passed) (fine : Fine l N) where
   -- the named bands under offsets that agree with a plan's
   bands : (shift : Shift) → InRange (timed l) shift → ((j : ℕ) → j < signals l → g j ≡ movedOffset shift (timed l) j) → Bands (timed l) g (outboundWidth shift (timed l)) (inboundWidth shift (timed l))
-  bands shift range same = moved-bands (timed l) (fit l room passed) (stops l room passed) (rising l room passed) g shift same range
+  bands shift range same = moved-bands (timed l) (fit l room passed) (bounded l room passed) (rising l room passed) g shift same range
 
   -- where no time was rounded, firm widths are exact
   exactly : m l ≡ 0 → (shift : Shift) → InRange (timed l) shift → ((j : ℕ) → j < signals l → g j ≡ movedOffset shift (timed l) j) → Firm shift (outboundWidth shift (timed l)) (inboundWidth shift (timed l)) → Exactly l N g (outboundWidth shift (timed l)) (inboundWidth shift (timed l))
   exactly none Unmoved range same firm =
       equal-exactly l room passed N fine none g
-      (equal-pattern (timed l) (fit l room passed) (stops l room passed) (rising l room passed) g same)
+      (equal-pattern (timed l) (fit l room passed) (bounded l room passed) (rising l room passed) g same)
       (bands Unmoved range same)
   exactly none (Outbound w) range same (p, q) =
       filled l room passed N fine none g w (otherWidth (timed l) w) p q (omega (arith, other-width (timed l) (fit l room passed) w)) (bands (Outbound w) range same)

@@ -7,27 +7,27 @@ use Rattle.circle.specs.Method.{Timed, inUnits, reference, phase, offset, equal
 use Rattle.circle.specs.Bands.{width, outboundWay, inboundWay}
 use Rattle.circle.proofs.Arcs.{where-some}
 use Rattle.circle.proofs.Raised.{Fit}
-use Rattle.circle.proofs.Since.{Stops, Rising}
-use Rattle.circle.proofs.Bound.{bound-signed}
+use Rattle.circle.proofs.Since.{Rising}
+use Rattle.circle.proofs.Bound.{Bounded, bound-signed}
 use Rattle.circle.proofs.Reflection.{Patterned, offset-turns, offset-patterned, likes}
 use Rattle.circle.proofs.Named.{Bands}
 use Rattle.circle.proofs.Planned.{equal-bands}
 use Rattle.circle.proofs.Best.{equal-best, neither}
-use Rattle.circle.proofs.Scale.{fit-scaled, stops-scaled, rising-scaled, equal-scaled}
+use Rattle.circle.proofs.Scale.{fit-scaled, rising-scaled, equal-scaled}
 use Rattle.street.specs.Times.{timed}
 use Rattle.promises.specs.Rounded.{OnStreets, Measured, NoneWider, TogetherTwiceB, Mirrored, behind, BandsClear, NamedClear}
-use Rattle.promises.proofs.Streets.{fit, stops, rising}
+use Rattle.promises.proofs.Streets.{fit, bounded, bounded-fine, rising}
 use Rattle.promises.proofs.Widths.{proper-way, width-passes, inside, as-wide, bands-measured}
 
-module _ (s : Timed) (ok : Fit s) (red : Stops s) (rise : Rising s) where
+module _ (s : Timed) (ok : Fit s) (two : Bounded s) (rise : Rising s) where
   around : 0 < 2 * s .cycle
   around = omega (arith, ok .turns)
 
   equal-measured : Measured s
   equal-measured =
       let c = reference s in
-      let most = neither s ok red rise c (phase s c) (offset s c) (offset-patterned s c around) in
-      bands-measured s ok red (offset s c) (equalWidth s) (equalWidth s) (equal-bands s ok rise) most
+      let most = neither s ok two rise c (phase s c) (offset s c) (offset-patterned s c around) in
+      bands-measured s ok (offset s c) (equalWidth s) (equalWidth s) (equal-bands s ok rise) most
 
   -- of two bands the smaller is at most the reported width, since where one is not open it is 0
   smaller-band : (f : ℕ → ℕ) → min (width (outboundWay s f)) (width (inboundWay s f)) ≤ equalWidth s
@@ -36,20 +36,20 @@ module _ (s : Timed) (ok : Fit s) (red : Stops s) (rise : Rising s) where
       (λ some.
       let (x, out) = width-passes (outboundWay s f) (proper-way s f ok) (omega arith) in
       let (y, back) = width-passes (inboundWay s f) (proper-way s f ok) (omega arith) in
-      equal-best s ok red rise f x y _ _ out back)
+      equal-best s ok two rise f x y _ _ out back)
 
   together : TogetherTwiceB s
   together f p q =
       let (x, out) = width-passes (outboundWay s f) (proper-way s f ok) p in
       let (y, back) = width-passes (inboundWay s f) (proper-way s f ok) q in
-      bound-signed s ok red rise f x y _ _ (omega arith) out back
+      bound-signed s ok two f x y _ _ (omega arith) out back
 
   mirror : Mirrored s
   mirror c e f either centre =
       let pattern : Patterned s c e f = record { either = either; centre = λ j l. offset-turns s c j (e j) (f j) around (centre j l) } in
       le-antisymm
-      (as-wide s ok red f (likes s (ok .turns) rise c e f pattern .0))
-      (as-wide s ok red f (likes s (ok .turns) rise c e f pattern .1))
+      (as-wide s ok f (likes s (ok .turns) rise c e f pattern .0))
+      (as-wide s ok f (likes s (ok .turns) rise c e f pattern .1))
 
 -- every departure in the named bands of a plan meets no red
 pub bands-clear : (s : Timed) → Fit s → (f : ℕ → ℕ) (v v′ : ℕ) → Bands s f v v′ → BandsClear s f v v′
@@ -63,20 +63,20 @@ bands-clear s ok f v v′ named =
     )
 
 pub measured : OnStreets Measured
-measured l room passed = equal-measured (timed l) (fit l room passed) (stops l room passed) (rising l room passed)
+measured l room passed = equal-measured (timed l) (fit l room passed) (bounded l room passed) (rising l room passed)
 
 pub none-wider : OnStreets NoneWider
 none-wider l room passed N f fine =
     let s = timed l in
     let ok = fit l room passed in
     subst (λ (v : ℕ). min (width (outboundWay (inUnits N s) f)) (width (inboundWay (inUnits N s) f)) ≤ v) (equal-scaled N s fine ok)
-    (smaller-band (inUnits N s) (fit-scaled N s fine ok) (stops-scaled N s fine ok (stops l room passed)) (rising-scaled N s fine ok (rising l room passed)) f)
+    (smaller-band (inUnits N s) (fit-scaled N s fine ok) (bounded-fine l room passed N fine) (rising-scaled N s fine ok (rising l room passed)) f)
 
 pub together-twice-B : OnStreets TogetherTwiceB
-together-twice-B l room passed = together (timed l) (fit l room passed) (stops l room passed) (rising l room passed)
+together-twice-B l room passed = together (timed l) (fit l room passed) (bounded l room passed) (rising l room passed)
 
 pub mirrored : OnStreets Mirrored
-mirrored l room passed = mirror (timed l) (fit l room passed) (stops l room passed) (rising l room passed)
+mirrored l room passed = mirror (timed l) (fit l room passed) (bounded l room passed) (rising l room passed)
 
 pub named-clear : OnStreets NamedClear
 named-clear l room passed =

@@ -17,9 +17,9 @@ use Rattle.circle.proofs.Arcs.{Passes}
 use Rattle.circle.proofs.Reference.{reference-first}
 use Rattle.circle.proofs.Named.{Bands}
 use Rattle.circle.proofs.Planned.{equal-bands, outbound-bands, inbound-bands}
-use Rattle.circle.proofs.Bound.{bound}
 use Rattle.circle.proofs.Scale.{scaled, greatest-scaled}
-use Rattle.circle.proofs.Moving.{B⁺, equal-width}
+use Rattle.circle.proofs.Raised.{B⁺}
+use Rattle.circle.proofs.Moving.{equal-width}
 use Rattle.circle.proofs.Platoons.{platoons-range}
 use Rattle.street.specs.Lists.{Lists, signals}
 use Rattle.street.specs.Checks.{planChecks}
@@ -27,7 +27,7 @@ use Rattle.street.specs.Times.{m, timed}
 use Rattle.street.specs.declared.Verdict.the-variants.{Passed}
 use Rattle.promises.specs.Exact.{Fine, exactOutbound, exactInbound}
 use Rattle.promises.specs.Rounding.{NoneBeats, Short, NamedClear, OutboundClear, InboundClear, NoOffsetsBeat, NoHalvesBeat, FallsShort, NamedBandsClear}
-use Rattle.promises.proofs.Directions.{fit, rising, fit-fine, stops-fine, rising-fine, outwards, inwards}
+use Rattle.promises.proofs.Directions.{fit, bounded-fine, rising, outwards, inwards}
 use Rattle.promises.proofs.Stretched.{leaves, named-short, named-inside}
 
 module _ (l : Lists) (room : ℕ) (passed : planChecks l room ≡ Passed) (N : ℕ) (fine : Fine l N) where
@@ -35,7 +35,7 @@ module _ (l : Lists) (room : ℕ) (passed : planChecks l room ≡ Passed) (N : �
   together : (f : ℕ → ℕ) (x y v v′ : ℕ) → 1 ≤ v + v′ → Passes (outboundWay (scaled N (timed l)) f) x v → Passes (inboundWay (scaled N (timed l)) f) y v′ → v + v′ + 2 * (N * halves (timed l)) ≤ 2 * (N * B⁺ (timed l))
   together f x y v v′ some out back =
       let s = timed l in
-      let most = bound (scaled N s) (fit-fine l room passed N fine) (stops-fine l room passed N fine) (rising-fine l room passed N fine) f x y v v′ some out back in
+      let most = bounded-fine l room passed N (fine .some) f x y v v′ some out back in
       omega (arith, greatest-scaled N s (fine .some) (fit l room passed))
 
   -- B, in the fine unit, is at most the equal width

@@ -25,14 +25,14 @@ use Rattle.street.specs.Times.{m, timed}
 use Rattle.street.specs.declared.Verdict.the-variants.{Passed}
 use Rattle.promises.specs.Exact.{Fine, exactWay}
 use Rattle.promises.specs.Rounding.{InsideClear, after}
-use Rattle.promises.proofs.Directions.{countedWay, Direction, fit, stops}
+use Rattle.promises.proofs.Directions.{countedWay, Direction, fit}
 
 -- of k departures that pass each one is clear, and so is one that differs from it by whole turns
 turned : (w : Way) → Proper w → (x y i k : ℕ) → i < k → Turns (w .around) x (y + i) → Passes w y k → clear w x ≡ true
 unfolding stretch
 turned w proper x y i k l turns passes =
     let one = part w i (k - 1) y k (omega arith) (omega arith) passes in
-    let here : Passes w x 1 = record { each = λ j h r. omega (arith, since-turns w proper x (y + i) j turns, one .each j h r) } in
+    let here : Passes w x 1 = record { most = omega (arith, one .most); each = λ j h r. omega (arith, since-turns w proper x (y + i) j turns, one .each j h r) } in
     let first : x + 0 ≡ x = omega arith in
     sym (ap (clear w) first) ∙ all-each 1 (λ i. clear w (x + i)) (passes-stretch w x 1 here) 0 (omega arith)
 
@@ -56,11 +56,11 @@ module _ (l : Lists) (room : ℕ) (passed : planChecks l room ≡ Passed) (N : �
 
   to-exact : (f lag : ℕ → ℕ) (x k : ℕ) → Passes (countedWay l N f lag) x k → Passes (exactWay l N f lag) x k
   to-exact f lag x k p =
-      record { each = λ j h r. omega (arith, since-alike f lag x j, p .each j h (omega arith)) }
+      record { most = omega (arith, p .most); each = λ j h r. omega (arith, since-alike f lag x j, p .each j h (omega arith)) }
 
   from-exact : (f lag : ℕ → ℕ) (x k : ℕ) → Passes (exactWay l N f lag) x k → Passes (countedWay l N f lag) x k
   from-exact f lag x k p =
-      record { each = λ j h r. omega (arith, since-alike f lag x j, p .each j h (omega arith)) }
+      record { most = omega (arith, p .most); each = λ j h r. omega (arith, since-alike f lag x j, p .each j h (omega arith)) }
 
   -- k departures that pass at rounded times, and at exact times all but N times m of them
   forth : (f : ℕ → ℕ) (x k : ℕ) → N * m l ≤ k → Passes (countedWay l N f rounded) x k → Passes (exactWay l N f exact) (x + d .window .moved) (k - N * m l)
@@ -108,12 +108,10 @@ module _ (l : Lists) (room : ℕ) (passed : planChecks l room ≡ Passed) (N : �
         go : Dec (N * v ≤ N * m l) → N * v ≤ width (exactWay l N (λ j. N * f j) exact) + N * m l
         go (yes little) = omega arith
         go (no more) =
-            let first : 0 < signals l = fit l room passed .some in
-            let most : v ≤ halves (timed l) = omega (arith, p .each 0 first (omega (arith, stops l room passed 0 first))) in
             let w = exactWay l N (λ j. N * f j) exact in
             let q = finer-passes N (along (outboundWay (timed l) f) coarse) (countedWay l N (λ j. N * f j) rounded) x v (d .finer f) p in
             let r = forth (λ j. N * f j) (N * x) (N * v) (omega arith) q in
-            omega (arith, width-ge w (proper (λ j. N * f j)) (N * x + d .window .moved) (N * v - N * m l) (omega arith) (omega (arith, mul-le-mul-left N most)) r)
+            omega (arith, width-ge w (proper (λ j. N * f j)) (N * x + d .window .moved) (N * v - N * m l) r)
 
     around : 0 < 2 * l .cycle
     around = omega (arith, fit l room passed .turns)

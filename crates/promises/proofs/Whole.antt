@@ -10,7 +10,8 @@ use Rattle.circle.specs.Bands.{width}
 use Rattle.circle.specs.Moved.{outboundLowering, inboundLowering, lowered, otherWidth}
 use Rattle.circle.proofs.Reflection.{Patterned, offset-patterned}
 use Rattle.circle.proofs.Scale.{scaled, equal-scaled, other-scaled, patterned-scaled}
-use Rattle.circle.proofs.Moving.{B⁺, asked, other-width}
+use Rattle.circle.proofs.Raised.{B⁺}
+use Rattle.circle.proofs.Moving.{asked, other-width}
 use Rattle.circle.proofs.Named.{Bands}
 use Rattle.circle.proofs.Planned.{equal-bands, outbound-bands, inbound-bands}
 use Rattle.circle.proofs.Best.{beside, neither}
@@ -20,7 +21,7 @@ use Rattle.street.specs.Times.{m, timed}
 use Rattle.street.specs.declared.Verdict.the-variants.{Passed}
 use Rattle.promises.specs.Exact.{Fine, exactOutbound, exactInbound}
 use Rattle.promises.specs.Rounding.{Exactly, EqualExact, MovedExact}
-use Rattle.promises.proofs.Directions.{fit, rising, fit-fine, stops-fine, rising-fine, outwards, inwards}
+use Rattle.promises.proofs.Directions.{fit, bounded-fine, rising, fit-fine, rising-fine, outwards, inwards}
 use Rattle.promises.proofs.Stretched.{whole, named-exact}
 use Rattle.promises.proofs.Rounding.{beats, falls}
 
@@ -37,10 +38,10 @@ module _ (l : Lists) (room : ℕ) (passed : planChecks l room ≡ Passed) (N : �
       let e : ℕ → ℕ = λ j. N * phase s c j in
       let f⁺ : ℕ → ℕ = λ j. N * f j in
       let ok = fit-fine l room passed N fine in
-      let red = stops-fine l room passed N fine in
+      let two = bounded-fine l room passed N (fine .some) in
       let rise = rising-fine l room passed N fine in
       let is = equal-scaled N s (fine .some) (fit l room passed) in
-      let most = neither (scaled N s) ok red rise c e f⁺ (patterned-scaled N s c (phase s c) f pattern) in (
+      let most = neither (scaled N s) ok two rise c e f⁺ (patterned-scaled N s c (phase s c) f pattern) in (
         named-exact l room passed N fine (outwards l room passed N fine) f nothing c (redEnd s c (f c)) 0 v (named .out)
             (λ x k p. omega (arith, is, most .0 x k p)),
         named-exact l room passed N fine (inwards l room passed N fine) f nothing c (redStart s c (f c)) v v (named .back)
@@ -54,7 +55,7 @@ module _ (l : Lists) (room : ℕ) (passed : planChecks l room ≡ Passed) (N : �
       let out = width (exactOutbound l N f) in
       let back = width (exactInbound l N f) in
       subst (λ (v : ℕ). (N * w ≤ out → back ≤ v) × (N * w ≤ back → out ≤ v)) (other-scaled N s (fine .some) (fit l room passed) w)
-      (beside (scaled N s) (fit-fine l room passed N fine) (stops-fine l room passed N fine) (rising-fine l room passed N fine) f (N * w) out back
+      (beside (scaled N s) (fit-fine l room passed N fine) (bounded-fine l room passed N (fine .some)) (rising-fine l room passed N fine) f (N * w) out back
       (omega (arith, mul-le-mul-left N some, fine .some))
       (whole l room passed N fine (outwards l room passed N fine) nothing f)
       (whole l room passed N fine (inwards l room passed N fine) nothing f))

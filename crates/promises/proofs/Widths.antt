@@ -11,7 +11,7 @@ use Rattle.circle.specs.Bands.{Way, clear, stretch, width, outboundWay, inbound
 use Rattle.circle.proofs.Man.{Turns, man-lt, man-turns}
 use Rattle.circle.proofs.Arcs.{Passes, where-some}
 use Rattle.circle.proofs.Raised.{Fit}
-use Rattle.circle.proofs.Since.{along, Stops}
+use Rattle.circle.proofs.Since.{along}
 use Rattle.circle.proofs.Named.{Named, Bands, meets}
 use Rattle.circle.proofs.Tests.{all-each}
 use Rattle.circle.proofs.Stretches.{Proper, passes-stretch, since-turns, width-ge, band-starts}
@@ -32,10 +32,9 @@ module _ (w : Way) (proper : Proper w) where
   pub width-passes : 1 ≤ width w → (x : ℕ) × Passes w x (width w)
   width-passes some = (_, band-starts w proper some .passes)
 
-  -- a stretch is no longer than the band, where some signal has a red
-  pub width-least : (i : ℕ) → i < w .signals → 0 < w .length i → (x k : ℕ) → Passes w x k → k ≤ width w
-  width-least i l red x k ok =
-      where-some k (width w) (λ some. width-ge w proper x k some (omega (arith, ok .each i l red)) ok)
+  -- a stretch is no longer than the band
+  pub width-least : (x k : ℕ) → Passes w x k → k ≤ width w
+  width-least x k ok = width-ge w proper x k ok
 
   -- every departure within a stretch meets no red
   pub inside-clear : (x₀ k v x : ℕ) → Passes w x₀ v → k < v → Turns (w .around) x (x₀ + k) → clear w x ≡ true
@@ -44,7 +43,7 @@ module _ (w : Way) (proper : Proper w) where
       let one : v - (v - 1) ≡ 1 = omega arith in
       let there : Passes w (x₀ + k) 1 = subst (Passes w (x₀ + k)) one (part w k (v - 1) x₀ v (omega arith) (omega arith) ok) in
       let here : Passes w x 1 =
-      record { each = λ j lj red. omega (arith, there .each j lj red, since-turns w proper x (x₀ + k) j turns) } in
+      record { most = there .most; each = λ j lj red. omega (arith, there .each j lj red, since-turns w proper x (x₀ + k) j turns) } in
       let zero-more : x + 0 ≡ x = omega arith in
       ap (clear w) (sym zero-more) ∙ all-each 1 (λ i. clear w (x + i)) (passes-stretch w x 1 here) 0 (omega arith)
 
@@ -59,11 +58,11 @@ module _ (w : Way) (proper : Proper w) where
       l
       (record { p = 1; q = 0; eq = omega arith })
 
-module _ (s : Timed) (ok : Fit s) (red : Stops s) (f : ℕ → ℕ) {lag : ℕ → ℕ} where
+module _ (s : Timed) (ok : Fit s) (f : ℕ → ℕ) {lag : ℕ → ℕ} where
   -- no stretch through a street is longer than the band, and no named band wider
   pub stretch-least : (x k : ℕ) → Passes (along (outboundWay s f) lag) x k → k ≤ width (along (outboundWay s f) lag)
   stretch-least =
-      width-least (along (outboundWay s f) lag) (proper-way s f ok) 0 (ok .some) (omega (arith, red 0 (ok .some)))
+      width-least (along (outboundWay s f) lag) (proper-way s f ok)
 
   pub named-least : (c instant a v : ℕ) → Named (along (outboundWay s f) lag) c instant a v → v ≤ width (along (outboundWay s f) lag)
   named-least c instant a v named =
@@ -89,13 +88,13 @@ NoneLonger s f v v′ =
     ((x k : ℕ) → Passes (outboundWay s f) x k → k ≤ v) × ((y k : ℕ) → Passes (inboundWay s f) y k → k ≤ v′)
 
 -- a plan's two named bands: neither measured width is below them, and where no stretch exceeds them they are the measured widths
-module _ (s : Timed) (ok : Fit s) (red : Stops s) (f : ℕ → ℕ) (v v′ : ℕ) (named : Bands s f v v′) where
+module _ (s : Timed) (ok : Fit s) (f : ℕ → ℕ) (v v′ : ℕ) (named : Bands s f v v′) where
   pub bands-least : (v ≤ width (outboundWay s f)) × (v′ ≤ width (inboundWay s f))
   bands-least =
       let c = reference s in
-      (named-least s ok red f c (redEnd s c (f c)) 0 v (named .out), named-least s ok red f c (redStart s c (f c)) v′ v′ (named .back))
+      (named-least s ok f c (redEnd s c (f c)) 0 v (named .out), named-least s ok f c (redStart s c (f c)) v′ v′ (named .back))
 
   pub bands-measured : NoneLonger s f v v′ → (width (outboundWay s f) ≡ v) × (width (inboundWay s f) ≡ v′)
   bands-measured (most, most′) =
       let c = reference s in
-      (named-width s ok red f c (redEnd s c (f c)) 0 v (named .out) most, named-width s ok red f c (redStart s c (f c)) v′ v′ (named .back) most′)
+      (named-width s ok f c (redEnd s c (f c)) 0 v (named .out) most, named-width s ok f c (redStart s c (f c)) v′ v′ (named .back) most′)
