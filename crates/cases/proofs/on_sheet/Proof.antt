@@ -23,7 +23,9 @@ planned-requires : tie.Need-planned-requires
 planned-requires c κs = reading-held _ _ (c .before .before .before .before .before .before .read .ensures) (c .before .before .before .before .enum-told .given .1)
 
 measured-requires : tie.Need-measured-requires
-measured-requires c κs = (reading-held _ _ (c .before .before .before .before .read .ensures) (c .before .before .enum-told .given .1), c .before .before .before .before .before .before .pre .0, c .before .before .before .before .before .before .pre .1)
+measured-requires c κs =
+    let start = c .before .before .before .before .before .before in
+    (reading-held _ _ (c .before .before .before .before .read .ensures) (c .before .before .enum-told .given .1), start .pre .0, start .pre .1)
 
 returns : tie.Need-returns
 returns c = search needs
