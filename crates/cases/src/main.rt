@@ -5,7 +5,9 @@ mod requests;
 use bands::Band;
 use bands::Measurement;
 use plans::Answer;
+use plans::Request;
 use printed::Printed;
+use requests::Asked;
 use requests::Call;
 use sheet::Sheet;
 use street::Refusal;
@@ -15,6 +17,7 @@ ghost use Prim.Native.Nat.{_≤_};
 ghost use mathlib.Core.Path.{_≡_};
 ghost use lib.ListN.{length};
 ghost use Rattle.printed.specs.Way.{Held};
+ghost use Rattle.cases.specs.Lines.{maxEntries};
 
 // The most bytes that one run takes.
 const MAX_INPUT: usize = 65_536;
@@ -42,7 +45,7 @@ fn show(text: Printed)
 }
 
 fn show_refusal(f: Refusal) {
-    show(printed::answer_text(Answer::Refused(f), 0, [0u32; 32]));
+    show(printed::answer_text(Answer::Refused(f), 0, [0u32; Street::MAX_SIGNALS]));
 }
 
 fn show_band(band: Band, end: &[u8]) {
@@ -53,8 +56,8 @@ fn show_band(band: Band, end: &[u8]) {
 }
 
 // The measure of some offsets on a sheet's street.
-fn measured(s: Sheet, count: usize, offsets: [u32; 64])
-    requires { ⌜ Held s × (count ≤ 64) × (length offsets ≡ 64) ⌝ }
+fn measured(s: Sheet, count: usize, offsets: [u32; Asked::MAX_ENTRIES])
+    requires { ⌜ Held s × (count ≤ maxEntries) × (length offsets ≡ maxEntries) ⌝ }
 {
     let n = s.signals;
     let links = n - 1;
@@ -81,62 +84,33 @@ fn measured(s: Sheet, count: usize, offsets: [u32; 64])
     }
 }
 
-// How many entries are lent: as many as the request says, 32 at most, which is enough for every street.
-fn lent(room: usize) -> usize
-    ensures { λ r. ⌜ r ≤ 32 ⌝ }
-{
-    if room < Street::MAX_SIGNALS {
-        return room;
-    }
-    Street::MAX_SIGNALS
-}
-
-// The plan of a call with a request, on a sheet's street. A call that is not one of these is answered as `equal` is.
-fn planned(s: Sheet, call: Call, room: usize, first: u32, second: u32)
+// The plan that a request asks for, on a sheet's street.
+fn planned(s: Sheet, request: Request, room: usize)
     requires { ⌜ Held s ⌝ }
 {
     let n = s.signals;
     let links = n - 1;
-    let cycle = s.cycle;
     let reds = s.reds;
     let distances = s.distances;
     let outbound = s.outbound;
     let inbound = s.inbound;
-    let r = &reds[..n];
-    let d = &distances[..n];
-    let o = &outbound[..links];
-    let i = &inbound[..links];
-    let mut offsets = [0u32; 32];
-    let k = lent(room);
-    let answer = answer(call, cycle, r, d, o, i, first, second, &mut offsets[..k]);
+    let mut offsets = [0u32; Street::MAX_SIGNALS];
+    let k = printed::lent(room);
+    let answer = plans::plan_for(
+        request,
+        s.cycle,
+        &reds[..n],
+        &distances[..n],
+        &outbound[..links],
+        &inbound[..links],
+        &mut offsets[..k],
+    );
     show(printed::answer_text(answer, n, offsets));
 }
 
-// The public call that a request names.
-fn answer(
-    call: Call,
-    cycle: u32,
-    r: &[u32],
-    d: &[u32],
-    o: &[u32],
-    i: &[u32],
-    first: u32,
-    second: u32,
-    offsets: &mut [u32],
-) -> Answer {
-    match call {
-        Call::Outbound => plans::outbound(cycle, r, d, o, i, first, offsets),
-        Call::Inbound => plans::inbound(cycle, r, d, o, i, first, offsets),
-        Call::Platoons => plans::platoons(cycle, r, d, o, i, first, second, offsets),
-        Call::Equal => plans::equal(cycle, r, d, o, i, offsets),
-        Call::Measure => plans::equal(cycle, r, d, o, i, offsets),
-        Call::Bad => plans::equal(cycle, r, d, o, i, offsets),
-    }
-}
-
-// A request that works on a sheet's numbers, or the reader's refusal.
-fn on_sheet(bytes: &[u8], call: Call, room: usize, count: usize, numbers: [u32; 64])
-    requires { ⌜ (count ≤ 64) × (length numbers ≡ 64) ⌝ }
+// What is asked of a sheet's numbers, a plan or else a measure, or the reader's refusal.
+fn on_sheet(bytes: &[u8], call: Call, room: usize, count: usize, numbers: [u32; Asked::MAX_ENTRIES])
+    requires { ⌜ (count ≤ maxEntries) × (length numbers ≡ maxEntries) ⌝ }
 {
     let reading = sheet::read(bytes);
     let verdict = reading.verdict;
@@ -144,30 +118,25 @@ fn on_sheet(bytes: &[u8], call: Call, room: usize, count: usize, numbers: [u32; 
         Verdict::Refused(f) => show_refusal(f),
         Verdict::Passed => {
             let s = reading.sheet;
-            if let Call::Measure = call {
-                measured(s, count, numbers);
+            if let Call::Plan(request) = call {
+                planned(s, request, room);
             } else {
-                planned(s, call, room, numbers[0], numbers[1]);
+                measured(s, count, numbers);
             }
         }
     }
 }
 
-// The reply to a case, with its empty line. `equal` takes the whole way at once, as the program does.
+// The reply to a case, with its empty line.
 fn reply(case: &[u8]) {
     let asked = requests::request(case);
     let call = asked.call;
     let at = asked.at;
     let numbers = asked.numbers;
-    match call {
-        Call::Bad => {
-            put(b"bad request\n");
-        }
-        Call::Equal => show(printed::equal_text(&case[at..], asked.room)),
-        Call::Outbound => on_sheet(&case[at..], call, asked.room, asked.count, numbers),
-        Call::Inbound => on_sheet(&case[at..], call, asked.room, asked.count, numbers),
-        Call::Platoons => on_sheet(&case[at..], call, asked.room, asked.count, numbers),
-        Call::Measure => on_sheet(&case[at..], call, asked.room, asked.count, numbers),
+    if let Call::Bad = call {
+        put(b"bad request\n");
+    } else {
+        on_sheet(&case[at..], call, asked.room, asked.count, numbers);
     }
     put(b"\n");
 }
@@ -197,7 +166,7 @@ fn run(input: &[u8]) {
 }
 
 fn main() {
-    let mut input = [0u8; 65537];
+    let mut input = [0u8; MAX_INPUT + 1];
     let got = io::read_full(0, &mut input);
     if got > MAX_INPUT {
         put(b"too long\n");

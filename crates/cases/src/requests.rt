@@ -1,21 +1,15 @@
-// A request line: which call, its numbers, and how many entries are lent.
+// A request line: what it asks for, and how many entries are lent.
+use plans::Request;
+use street::Street;
 ghost use Prim.Native.Nat.{_≤_};
 ghost use lib.ListN.{length};
 ghost use mathlib.Core.Path.{_≡_};
-use street::Street;
+ghost use Rattle.cases.specs.Lines.{maxEntries};
 
-// The longest lent list that a request may name, and the most numbers of a line that are kept.
-const MAX_ROOM: u32 = 64;
-
-const MAX_NUMBERS: usize = 64;
-
-// The calls that are served.
+// What a line asks for: a plan, or the measure of its numbers as offsets. A line that is not served is bad.
 pub enum Call {
     Bad,
-    Equal,
-    Outbound,
-    Inbound,
-    Platoons,
+    Plan(Request),
     Measure,
 }
 
@@ -24,14 +18,19 @@ pub struct Asked {
     pub call: Call,
     pub room: usize,
     pub count: usize,
-    pub numbers: [u32; 64],
+    pub numbers: [u32; Asked::MAX_ENTRIES],
     pub at: usize,
 }
 
-// Numbers, each after one space: how many they are, and where they end. Those after the 64th are passed over.
+impl Asked {
+    // The longest lent list that a line may name, and the most of its numbers that are kept.
+    pub const MAX_ENTRIES: usize = 64;
+}
+
+// Numbers, each after one space: how many they are, and where they end. Those past the most that are kept are passed over.
 struct Listed {
     count: usize,
-    numbers: [u32; 64],
+    numbers: [u32; Asked::MAX_ENTRIES],
     at: usize,
 }
 
@@ -103,9 +102,9 @@ fn digits_at(bytes: &[u8], from: usize) -> Digits
 // The numbers from an index on.
 fn numbers(bytes: &[u8], from: usize) -> Listed
     requires { ⌜ from ≤ length (now bytes) ⌝ }
-    ensures { λ r. ⌜ (r .at ≤ length (now (bytes .entry))) × (r .count ≤ 64) × (length (r .numbers) ≡ 64) ⌝ }
+    ensures { λ r. ⌜ (r .at ≤ length (now (bytes .entry))) × (r .count ≤ maxEntries) × (length (r .numbers) ≡ maxEntries) ⌝ }
 {
-    let mut list = [0u32; 64];
+    let mut list = [0u32; Asked::MAX_ENTRIES];
     let mut count: usize = 0;
     let mut at = from;
     while at < bytes.len() {
@@ -116,7 +115,7 @@ fn numbers(bytes: &[u8], from: usize) -> Listed
         if !number.good {
             break;
         }
-        if count < MAX_NUMBERS {
+        if count < Asked::MAX_ENTRIES {
             list[count] = number.value;
             count += 1;
         }
@@ -163,43 +162,38 @@ fn line_end(bytes: &[u8], from: usize, lends: bool) -> Ending
     if !number.good {
         return no_ending();
     }
-    if number.value > MAX_ROOM {
+    let room = number.value as usize;
+    if room > Asked::MAX_ENTRIES {
         return no_ending();
     }
     let end = past(bytes, number.at, b"\n");
     Ending {
         good: end > 0,
-        room: number.value as usize,
+        room,
         at: end,
     }
 }
 
-// The call, where the line is formed as it should be.
-fn served(call: Call, ended: bool, enough: bool, few: bool) -> Call {
-    if !ended {
-        return Call::Bad;
-    }
-    if !enough {
-        return Call::Bad;
-    }
-    if !few {
-        return Call::Bad;
-    }
-    call
+// A line from its word on: whether it is formed as it should be, its numbers and its end.
+struct Line {
+    good: bool,
+    room: usize,
+    count: usize,
+    numbers: [u32; Asked::MAX_ENTRIES],
+    at: usize,
 }
 
-// A request for a call with so many numbers.
-fn call_with(bytes: &[u8], from: usize, call: Call, least: usize, most: usize, lends: bool) -> Asked
+// The rest of a line with so many numbers.
+fn line_from(bytes: &[u8], from: usize, least: usize, most: usize, lends: bool) -> Line
     requires { ⌜ from ≤ length (now bytes) ⌝ }
-    ensures { λ r. ⌜ (r .at ≤ length (now (bytes .entry))) × (r .count ≤ 64) × (length (r .numbers) ≡ 64) ⌝ }
+    ensures { λ r. ⌜ (r .at ≤ length (now (bytes .entry))) × (r .count ≤ maxEntries) × (length (r .numbers) ≡ maxEntries) ⌝ }
 {
     let list = numbers(bytes, from);
     let count = list.count;
     let values = list.numbers;
     let end = line_end(bytes, list.at, lends);
-    let formed = end.good;
-    Asked {
-        call: served(call, formed, least <= count, count <= most),
+    Line {
+        good: end.good && least <= count && count <= most,
         room: end.room,
         count,
         numbers: values,
@@ -207,29 +201,62 @@ fn call_with(bytes: &[u8], from: usize, call: Call, least: usize, most: usize, l
     }
 }
 
+fn served(call: Call, good: bool) -> Call {
+    if good {
+        return call;
+    }
+    Call::Bad
+}
+
+// What a line asks for, where it is formed as it should be.
+fn with_call(line: Line, call: Call) -> Asked
+    ensures { λ r. ⌜ (r .at ≡ line .at) × (r .count ≡ line .count) × (r .numbers ≡ line .numbers) ⌝ }
+{
+    let numbers = line.numbers;
+    Asked {
+        call: served(call, line.good),
+        room: line.room,
+        count: line.count,
+        numbers,
+        at: line.at,
+    }
+}
+
 // The request of a case.
 pub fn request(case: &[u8]) -> Asked
-    ensures { λ r. ⌜ (r .at ≤ length (now (case .entry))) × (r .count ≤ 64) × (length (r .numbers) ≡ 64) ⌝ }
+    ensures { λ r. ⌜ (r .at ≤ length (now (case .entry))) × (r .count ≤ maxEntries) × (length (r .numbers) ≡ maxEntries) ⌝ }
 {
     let equal = past(case, 0, b"equal");
     if equal > 0 {
-        return call_with(case, equal, Call::Equal, 0, 0, true);
+        return with_call(
+            line_from(case, equal, 0, 0, true),
+            Call::Plan(Request::Equal),
+        );
     }
     let outbound = past(case, 0, b"outbound");
     if outbound > 0 {
-        return call_with(case, outbound, Call::Outbound, 1, 1, true);
+        let rest = line_from(case, outbound, 1, 1, true);
+        let numbers = rest.numbers;
+        return with_call(rest, Call::Plan(Request::Outbound(numbers[0])));
     }
     let inbound = past(case, 0, b"inbound");
     if inbound > 0 {
-        return call_with(case, inbound, Call::Inbound, 1, 1, true);
+        let rest = line_from(case, inbound, 1, 1, true);
+        let numbers = rest.numbers;
+        return with_call(rest, Call::Plan(Request::Inbound(numbers[0])));
     }
     let platoons = past(case, 0, b"platoons");
     if platoons > 0 {
-        return call_with(case, platoons, Call::Platoons, 2, 2, true);
+        let rest = line_from(case, platoons, 2, 2, true);
+        let numbers = rest.numbers;
+        return with_call(rest, Call::Plan(Request::Platoons(numbers[0], numbers[1])));
     }
     let measure = past(case, 0, b"measure");
     if measure > 0 {
-        return call_with(case, measure, Call::Measure, 0, MAX_NUMBERS, false);
+        return with_call(
+            line_from(case, measure, 0, Asked::MAX_ENTRIES, false),
+            Call::Measure,
+        );
     }
-    call_with(case, 0, Call::Bad, 0, 0, false)
+    with_call(line_from(case, 0, 0, 0, false), Call::Bad)
 }

@@ -164,17 +164,25 @@ requested-refused asked l before f e =
     refusal asked l before f (ap (λ v. firstFault (v ∷ requestCheck asked (timed l) ∷ [])) e)
 
 -- the request's check over the typed lists
-check-lists : (asked : Request) (l : Lists) (room : ℕ) (s : Street) (v : Verdict) → planChecks l room ≡ verdict.Passed → s ≡ streetOf l → requestCheck asked (timedStreet s) ≡ v → requestChecks asked l room ≡ orNext v verdict.Passed
+check-lists :
+    (asked : Request) (l : Lists) (room : ℕ) (s : Street) (v : Verdict) → planChecks l room ≡ verdict.Passed → s ≡ streetOf l →
+    requestCheck asked (timedStreet s) ≡ v → requestChecks asked l room ≡ orNext v verdict.Passed
 check-lists asked l room s v passed is e =
     ap₂ (λ x y. firstFault (x ∷ y ∷ [])) passed
     (sym (check-agree (timedStreet (streetOf l)) (timed l) (street-agrees l room passed) asked) ∙ ap (λ x. requestCheck asked (timedStreet x)) (sym is) ∙ e)
 
-pub asked-refused : (asked : Request) (l : Lists) (before : List ℕ) (s : Street) (f : Refusal) → planChecks l (length before) ≡ verdict.Passed → s ≡ streetOf l → requestCheck asked (timedStreet s) ≡ verdict.Refused f → Requested asked l before before (answer.Refused f)
+pub asked-refused :
+    (asked : Request) (l : Lists) (before : List ℕ) (s : Street) (f : Refusal) → planChecks l (length before) ≡ verdict.Passed → s ≡ streetOf l →
+    requestCheck asked (timedStreet s) ≡ verdict.Refused f → Requested asked l before before (answer.Refused f)
 asked-refused asked l before s f passed is e =
     refusal asked l before f (check-lists asked l (length before) s (verdict.Refused f) passed is e)
 
 -- a plan
-pub requested-planned : (asked : Request) (l : Lists) (before after : List ℕ) (s : Street) (shift : Shift) (p : Plan) → planChecks l (length before) ≡ verdict.Passed → s ≡ streetOf l → requestCheck asked (timedStreet s) ≡ verdict.Passed → shift ≡ shiftOf asked (timedStreet s) → after ≡ listBelow (s .road .signals) (movedOffset shift (timedStreet s)) ++ drop (s .road .signals) before → p ≡ movedPlan shift (timedStreet s) (s .road .rounded) → Requested asked l before after (answer.Planned p)
+pub requested-planned :
+    (asked : Request) (l : Lists) (before after : List ℕ) (s : Street) (shift : Shift) (p : Plan) → planChecks l (length before) ≡ verdict.Passed →
+    s ≡ streetOf l → requestCheck asked (timedStreet s) ≡ verdict.Passed → shift ≡ shiftOf asked (timedStreet s) →
+    after ≡ listBelow (s .road .signals) (movedOffset shift (timedStreet s)) ++ drop (s .road .signals) before →
+    p ≡ movedPlan shift (timedStreet s) (s .road .rounded) → Requested asked l before after (answer.Planned p)
 requested-planned asked l before after s shift p passed is fits moves wrote planned =
     let some : 0 < signals l = omega (arith, sound l (length before) passed .road .some) in
     let agree = street-agrees l (length before) passed in

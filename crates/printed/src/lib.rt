@@ -142,7 +142,7 @@ fn text(answer: Answer, signals: usize, offsets: [u32; 32]) -> Printed
 }
 
 // How many entries a list of some room has here: 32 are enough for every street.
-fn lent(room: usize) -> usize
+pub fn lent(room: usize) -> usize
     ensures { λ r. ⌜ r ≡ lentOf room ⌝ }
 {
     if room < Street::MAX_SIGNALS {

@@ -4,10 +4,11 @@ use Prim.Native.Nat.{ℕ, _-_}
 use mathlib.Core.Path.{subst}
 use lib.ListN.{length, getD}
 use Rattle.circle.specs.Method.{reference, redEnd, redStart}
+use Rattle.circle.proofs.Method.{reference-lt}
 use Rattle.street.specs.Times.{timed}
-use Rattle.plans.specs.Moved.{shiftOf, outboundWidth, inboundWidth}
+use Rattle.plans.specs.Moved.{shiftOf, movedOffset, outboundWidth, inboundWidth}
 use Rattle.promises.specs.Replies.{BandsKept, ReplyBands}
-use Rattle.promises.proofs.Streets.{fit, bounded, bounded-fine, rising}
+use Rattle.promises.proofs.Streets.{fit, bounded, rising}
 use Rattle.promises.proofs.Widths.{bands-least, bands-measured}
 use Rattle.promises.proofs.Rounded.{bands-clear}
 use Rattle.promises.proofs.Moved.{moved-bands, firm-most}
@@ -19,6 +20,7 @@ reply-bands asked l entry exit r call code =
     let c = reference s in
     let shift = shiftOf asked s in
     let told = reply-told asked l entry exit r call code in
+    let f = movedOffset shift s in
     let g : ℕ → ℕ = λ j. getD exit j 0 in
     let ok = fit l (length entry) (told .passed) in
     let two = bounded l (length entry) (told .passed) in
@@ -29,5 +31,6 @@ reply-bands asked l entry exit r call code =
     let (out, back) = bands-clear s ok g v v′ named in
     let (least, least′) = bands-least s ok g v v′ named in
     subst (λ p. BandsKept shift s g (p .reference - 1) (p .starts) (p .outbound) (p .ends) (p .inbound)) (told .numbers)
-    (subst (λ (k : ℕ). BandsKept shift s g k (redEnd s c (g c)) v (redStart s c (g c)) v′) (counted c)
-    (out, back, least, least′, λ firm. bands-measured s ok g v v′ named (firm-most s ok two rise g shift (told .same) (told .range) firm)))
+    (subst (λ (k : ℕ). BandsKept shift s g k (redEnd s c (f c)) v (redStart s c (f c)) v′) (counted c)
+    (subst (λ (z : ℕ). BandsKept shift s g c (redEnd s c z) v (redStart s c z) v′) (told .same c (reference-lt s (ok .some)))
+    (out, back, least, least′, λ firm. bands-measured s ok g v v′ named (firm-most s ok two rise g shift (told .same) (told .range) firm))))

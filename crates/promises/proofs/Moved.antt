@@ -33,28 +33,34 @@ use Rattle.promises.proofs.Widths.{proper-way, width-passes, NoneLonger
 use Rattle.promises.proofs.Agreed.{bands-same, pattern-same}
 use Rattle.promises.proofs.Rounded.{bands-clear}
 
-module _ (s : Timed) (ok : Fit s) (two : Bounded s) (rise : Rising s) where
-  -- offsets that are a plan's at every signal have its named bands, as wide as reported
-  module _ (g : ℕ → ℕ) where
-    -- where nothing is moved these are the equal plan's own
-    own : ((j : ℕ) → j < s .signals → g j ≡ movedOffset Unmoved s j) → (j : ℕ) → j < s .signals → g j ≡ offset s (reference s) j
-    own same j l = same j l ∙ unmoved-offset s j (ok .turns)
+-- offsets g that are a plan's at every signal
+abbrev pub Follows : Timed → Shift → (ℕ → ℕ) → Type 0
+Follows s shift g = (j : ℕ) → j < s .signals → g j ≡ movedOffset shift s j
 
-    pub equal-pattern : ((j : ℕ) → j < s .signals → g j ≡ movedOffset Unmoved s j) → Patterned s (reference s) (phase s (reference s)) g
+module _ (s : Timed) (ok : Fit s) (two : Bounded s) (rise : Rising s) where
+  -- such offsets have the plan's named bands, as wide as reported
+  module _ (g : ℕ → ℕ) where
+    -- where nothing is moved they are the method's own
+    own-offset : Follows s Unmoved g → (j : ℕ) → j < s .signals → g j ≡ offset s (reference s) j
+    own-offset same j l = same j l ∙ unmoved-offset s j (ok .turns)
+
+    pub equal-pattern : Follows s Unmoved g → Patterned s (reference s) (phase s (reference s)) g
     equal-pattern same =
         let c = reference s in
-        pattern-same s (offset s c) g (own same) c (phase s c) (offset-patterned s c (omega (arith, ok .turns)))
+        pattern-same s (offset s c) g (own-offset same) c (phase s c) (offset-patterned s c (omega (arith, ok .turns)))
 
-    pub moved-bands : (shift : Shift) → ((j : ℕ) → j < s .signals → g j ≡ movedOffset shift s j) → InRange s shift → Bands s g (outboundWidth shift s) (inboundWidth shift s)
+    pub moved-bands : (shift : Shift) → Follows s shift g → InRange s shift → Bands s g (outboundWidth shift s) (inboundWidth shift s)
     moved-bands Unmoved same range =
-        bands-same s (offset s (reference s)) g (own same) (ok .some) (equalWidth s) (equalWidth s) (equal-bands s ok rise)
+        bands-same s (offset s (reference s)) g (own-offset same) (ok .some) (equalWidth s) (equalWidth s) (equal-bands s ok rise)
     moved-bands (Outbound w) same range =
         bands-same s (movedOffset (Outbound w) s) g same (ok .some) w (otherWidth s w) (outbound-bands s ok rise w range)
     moved-bands (Inbound w) same range =
         bands-same s (movedOffset (Inbound w) s) g same (ok .some) (otherWidth s w) w (inbound-bands s ok rise w range)
 
     -- and no stretch is longer than its firm widths: two that are both above 0 make up 2B
-    pub firm-most : (shift : Shift) → ((j : ℕ) → j < s .signals → g j ≡ movedOffset shift s j) → InRange s shift → Firm shift (outboundWidth shift s) (inboundWidth shift s) → NoneLonger s g (outboundWidth shift s) (inboundWidth shift s)
+    pub firm-most :
+        (shift : Shift) → Follows s shift g → InRange s shift → Firm shift (outboundWidth shift s) (inboundWidth shift s) →
+        NoneLonger s g (outboundWidth shift s) (inboundWidth shift s)
     firm-most Unmoved same range firm = neither s ok two rise (reference s) (phase s (reference s)) g (equal-pattern same)
     firm-most (Outbound w) same range (p, q) =
         let (out, back) = fill s ok two rise g w (otherWidth s w) p q (omega (arith, other-width s ok w)) (moved-bands (Outbound w) same range) in

@@ -7,7 +7,7 @@ use mathlib.Core.List.{List}
 use native.Mathlib.Omega.{arith}
 use lib.ListN.{length, drop, getD}
 use Rattle.circle.specs.Over.{listBelow}
-use Rattle.circle.specs.Method.{Timed, B, reference, offset, redEnd, redStart}
+use Rattle.circle.specs.Method.{Timed, reference, redEnd, redStart}
 use Rattle.circle.specs.Moved.{inRange, otherWidth}
 use Rattle.circle.proofs.Over.{getD-listBelow}
 use Rattle.circle.proofs.Method.{reference-lt}
@@ -38,7 +38,7 @@ use Rattle.promises.specs.Rounding.{Short, Exactly, NamedClear, NoneBett
 use Rattle.promises.specs.Replies.{EqualIsMethod}
 use Rattle.plans.proofs.EqualLaws.{unmoved-offset}
 use Rattle.promises.proofs.Directions.{fit, bounded, rising}
-use Rattle.promises.proofs.Moved.{equal-pattern, moved-bands, platoons-in-range}
+use Rattle.promises.proofs.Moved.{Follows, equal-pattern, moved-bands, platoons-in-range}
 use Rattle.promises.proofs.Rounding.{beats, falls, kept}
 use Rattle.promises.proofs.Whole.{equal-exactly, filled, moved-exact}
 
@@ -81,29 +81,16 @@ in-range (request.Outbound w) l room passed e = width-passed (timed l) w e
 in-range (request.Inbound w) l room passed e = width-passed (timed l) w e
 in-range (request.Platoons P Q) l room passed e = platoons-in-range l room passed P Q
 
--- a plan's numbers, by the reference's own offset
-abbrev planAt : Shift → Lists → ℕ → Plan
-planAt shift l f =
-    let s = timed l in
-    let c = reference s in
-    record {
-      reference = c + 1;
-      b = B s;
-      outbound = outboundWidth shift s;
-      inbound = inboundWidth shift s;
-      rounded = m l;
-      starts = redEnd s c f;
-      ends = redStart s c f;
-    }
-
--- so what a reply with code 0 and the lent list say: the checks passed, the shift is in range, and the offsets of the list and the numbers are those of a plan
+-- so what a reply with code 0 and the lent list say: the checks passed, the shift is in range, and numbers and offsets are those of a plan
 pub record Told (l : Lists) (room : ℕ) (shift : Shift) (exit : List ℕ) (r : Answer) : Type 0 where
   pub passed : planChecks l room ≡ Passed
   pub range : InRange (timed l) shift
-  pub same : (j : ℕ) → j < signals l → getD exit j 0 ≡ movedOffset shift (timed l) j
-  pub numbers : planAt shift l (getD exit (reference (timed l)) 0) ≡ numbersOf r .plan
+  pub numbers : movedPlan shift (timed l) (m l) ≡ numbersOf r .plan
+  pub same : Follows (timed l) shift (λ j. getD exit j 0)
 
-pub reply-told : (asked : Request) (l : Lists) (entry exit : List ℕ) (r : Answer) → Requested asked l entry exit r → numbersOf r .code ≡ 0 → Told l (length entry) (shiftOf asked (timed l)) exit r
+pub reply-told :
+    (asked : Request) (l : Lists) (entry exit : List ℕ) (r : Answer) → Requested asked l entry exit r → numbersOf r .code ≡ 0 →
+    Told l (length entry) (shiftOf asked (timed l)) exit r
 reply-told asked l entry exit r call code =
     let s = timed l in
     let room = length entry in
@@ -113,14 +100,11 @@ reply-told asked l entry exit r call code =
     let all : v ≡ Passed = planned v plan (ap (λ a. numbersOf a .code) (sym (call .reply)) ∙ code) in
     let passed = first-passed (planChecks l room) (orNext (requestCheck asked s) Passed) all in
     let asks = rest-passed (planChecks l room) (orNext (requestCheck asked s) Passed) all in
-    let same : (j : ℕ) → j < signals l → getD exit j 0 ≡ movedOffset shift s j = λ j h. ap (λ (x : List ℕ). getD x j 0) (call .after) ∙ left v (signals l) (movedOffset shift s) entry all j h in
     record {
       passed = passed;
       range = in-range asked l room passed (first-passed (requestCheck asked s) Passed asks);
-      same = same;
-      numbers =
-          ap (planAt shift l) (same (reference s) (reference-lt s (fit l room passed .some)))
-          ∙ sym (ap (λ a. numbersOf a .plan) (call .reply) ∙ replied v plan all);
+      numbers = sym (ap (λ a. numbersOf a .plan) (call .reply) ∙ replied v plan all);
+      same = λ j h. ap (λ (x : List ℕ). getD x j 0) (call .after) ∙ left v (signals l) (movedOffset shift s) entry all j h;
     }
 
 -- the reference counted from 0 is one less than the reply's
@@ -140,31 +124,37 @@ equal-is-method l entry exit r call =
       λ code.
           let told = reply-told request.Equal l entry exit r call code in
           let ok = fit l (length entry) (told .passed) in
-          let own : (j : ℕ) → j < signals l → getD exit j 0 ≡ offset s c j = λ j h. told .same j h ∙ unmoved-offset s j (ok .turns) in
-          (sym (told .numbers) ∙ ap (planAt Unmoved l) (own c (reference-lt s (ok .some))), own),
+          let is = sym (told .numbers) in
+          let own = unmoved-offset s c (ok .turns) in (
+            ap (λ p. p .reference) is,
+            ap (λ p. p .b) is,
+            ap (λ p. p .outbound) is,
+            ap (λ p. p .inbound) is,
+            ap (λ p. p .rounded) is,
+            ap (λ p. p .starts) is ∙ ap (redEnd s c) own,
+            ap (λ p. p .ends) is ∙ ap (redStart s c) own,
+            λ j h. told .same j h ∙ unmoved-offset s j (ok .turns),
+          ),
     )
 
--- no offsets do better than such a shift
-none-better : (shift : Shift) (l : Lists) (room N : ℕ) → planChecks l room ≡ Passed → Fine l N → InRange (timed l) shift → NoneBetter shift l N (outboundWidth shift (timed l)) (inboundWidth shift (timed l)) (m l)
-none-better Unmoved l room N passed fine range = beats l room passed N fine
-none-better (Outbound w) l room N passed fine range = λ none. moved-exact l room N passed fine none w range .2
-none-better (Inbound w) l room N passed fine range = λ none. moved-exact l room N passed fine none w range .3
+module _ (l : Lists) (room N : ℕ) (passed : planChecks l room ≡ Passed) (fine : Fine l N) where
+  -- no offsets do better than a shift in range
+  none-better : (shift : Shift) → InRange (timed l) shift → NoneBetter shift l N (outboundWidth shift (timed l)) (inboundWidth shift (timed l)) (m l)
+  none-better Unmoved range = beats l room passed N fine
+  none-better (Outbound w) range = λ none. moved-exact l room N passed fine none w range .2
+  none-better (Inbound w) range = λ none. moved-exact l room N passed fine none w range .3
 
-module _ (l : Lists) (room N : ℕ) (g : ℕ → ℕ) (passed : planChecks l room ≡ Passed) (fine : Fine l N) where
-  -- the named bands under offsets that agree with a plan's
-  bands : (shift : Shift) → InRange (timed l) shift → ((j : ℕ) → j < signals l → g j ≡ movedOffset shift (timed l) j) → Bands (timed l) g (outboundWidth shift (timed l)) (inboundWidth shift (timed l))
-  bands shift range same = moved-bands (timed l) (fit l room passed) (bounded l room passed) (rising l room passed) g shift same range
-
-  -- where no time was rounded, firm widths are exact
-  exactly : m l ≡ 0 → (shift : Shift) → InRange (timed l) shift → ((j : ℕ) → j < signals l → g j ≡ movedOffset shift (timed l) j) → Firm shift (outboundWidth shift (timed l)) (inboundWidth shift (timed l)) → Exactly l N g (outboundWidth shift (timed l)) (inboundWidth shift (timed l))
-  exactly none Unmoved range same firm =
-      equal-exactly l room passed N fine none g
-      (equal-pattern (timed l) (fit l room passed) (bounded l room passed) (rising l room passed) g same)
-      (bands Unmoved range same)
-  exactly none (Outbound w) range same (p, q) =
-      filled l room passed N fine none g w (otherWidth (timed l) w) p q (omega (arith, other-width (timed l) (fit l room passed) w)) (bands (Outbound w) range same)
-  exactly none (Inbound w) range same (p, q) =
-      filled l room passed N fine none g (otherWidth (timed l) w) w p q (omega (arith, other-width (timed l) (fit l room passed) w)) (bands (Inbound w) range same)
+  -- where no time was rounded, firm widths are exact under offsets with the plan's named bands
+  exactly :
+      (none : m l ≡ 0) (g : ℕ → ℕ) (shift : Shift) → Follows (timed l) shift g → Bands (timed l) g (outboundWidth shift (timed l)) (inboundWidth shift (timed l)) →
+      Firm shift (outboundWidth shift (timed l)) (inboundWidth shift (timed l)) → Exactly l N g (outboundWidth shift (timed l)) (inboundWidth shift (timed l))
+  exactly none g Unmoved same named firm =
+      let pattern = equal-pattern (timed l) (fit l room passed) (bounded l room passed) (rising l room passed) g same in
+      equal-exactly l room passed N fine none g pattern named
+  exactly none g (Outbound w) same named (p, q) =
+      filled l room passed N fine none g w (otherWidth (timed l) w) p q (omega (arith, other-width (timed l) (fit l room passed) w)) named
+  exactly none g (Inbound w) same named (p, q) =
+      filled l room passed N fine none g (otherWidth (timed l) w) w p q (omega (arith, other-width (timed l) (fit l room passed) w)) named
 
 -- what is promised of every plan's numbers and offsets
 Carried : (shift : Shift) (l : Lists) (N : ℕ) (f : ℕ → ℕ) (c : ℕ) (p : Plan) → Type 0
@@ -178,17 +168,21 @@ pub reply-keeps : ReplyKeeps
 unfolding Carried
 reply-keeps asked l entry exit r N call code fine =
     let s = timed l in
+    let c = reference s in
     let shift = shiftOf asked s in
     let room = length entry in
     let told = reply-told asked l entry exit r call code in
+    let passed = told .passed in
+    let ok = fit l room passed in
     let g : ℕ → ℕ = λ j. getD exit j 0 in
-    let named = bands l room N g (told .passed) fine shift (told .range) (told .same) in
     let v = outboundWidth shift s in
     let v′ = inboundWidth shift s in
+    let named = moved-bands s ok (bounded l room passed) (rising l room passed) g shift (told .same) (told .range) in
+    let inside = subst (λ (z : ℕ). NamedClear l N g c (redEnd s c z) v (redStart s c z) v′ (m l)) (told .same c (reference-lt s (ok .some))) (kept l room passed N fine g v v′ named) in
     subst (λ p. Carried shift l N g (p .reference - 1) p) (told .numbers)
-    (subst (λ (c : ℕ). Carried shift l N g c (planAt shift l (g (reference s)))) (counted (reference s)) (
-      falls l room (told .passed) N fine g v v′ named,
-      kept l room (told .passed) N fine g v v′ named,
-      none-better shift l room N (told .passed) fine (told .range),
-      λ none firm. exactly l room N g (told .passed) fine none shift (told .range) (told .same) firm,
+    (subst (λ (k : ℕ). Carried shift l N g k (movedPlan shift s (m l))) (counted c) (
+      falls l room passed N fine g v v′ named,
+      inside,
+      none-better l room N passed fine shift (told .range),
+      λ none. exactly l room N passed fine none g shift (told .same) named,
     ))

@@ -32,7 +32,9 @@ use Rattle.promises.proofs.Stretched.{leaves, named-short, named-inside
 
 module _ (l : Lists) (room : ℕ) (passed : planChecks l room ≡ Passed) (N : ℕ) (fine : Fine l N) where
   -- two stretches at rounded times in the fine unit never exceed 2B together, whatever the offsets
-  together : (f : ℕ → ℕ) (x y v v′ : ℕ) → 1 ≤ v + v′ → Passes (outboundWay (scaled N (timed l)) f) x v → Passes (inboundWay (scaled N (timed l)) f) y v′ → v + v′ + 2 * (N * halves (timed l)) ≤ 2 * (N * B⁺ (timed l))
+  together :
+      (f : ℕ → ℕ) (x y v v′ : ℕ) → 1 ≤ v + v′ → Passes (outboundWay (scaled N (timed l)) f) x v → Passes (inboundWay (scaled N (timed l)) f) y v′ →
+      v + v′ + 2 * (N * halves (timed l)) ≤ 2 * (N * B⁺ (timed l))
   together f x y v v′ some out back =
       let s = timed l in
       let most = bounded-fine l room passed N (fine .some) f x y v v′ some out back in

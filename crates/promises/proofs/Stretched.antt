@@ -127,12 +127,16 @@ module _ (l : Lists) (room : ℕ) (passed : planChecks l room ≡ Passed) (N : �
         go (no none) = let e : v ≡ 0 = omega arith in omega (arith, ap (λ (z : ℕ). N * z) e)
 
     -- where nothing was rounded, a named band that no stretch in the fine unit exceeds is exact
-    pub named-exact : N * m l ≡ 0 → (c instant a v : ℕ) → Named (along (outboundWay (timed l) f) coarse) c instant a v → ((x k : ℕ) → Passes (countedWay l N (λ j. N * f j) rounded) x k → k ≤ N * v) → width (exactWay l N (λ j. N * f j) exact) ≡ N * v
+    pub named-exact :
+        N * m l ≡ 0 → (c instant a v : ℕ) → Named (along (outboundWay (timed l) f) coarse) c instant a v →
+        ((x k : ℕ) → Passes (countedWay l N (λ j. N * f j) rounded) x k → k ≤ N * v) → width (exactWay l N (λ j. N * f j) exact) ≡ N * v
     named-exact nothing c instant a v named most =
         omega (arith, nothing, named-short c instant a v named, no-wider (λ j. N * f j) (N * v) most)
 
     -- counted at c, where it comes by at the instant `start`, all of it but N times m at each end is clear
-    pub named-inside : (c start instant a v : ℕ) → c < signals l → Turns (halves (timed l)) (start + a) instant → Named (along (outboundWay (timed l) f) coarse) c instant a v → InsideClear (exactWay l N (λ j. N * f j) exact) N c start v (m l)
+    pub named-inside :
+        (c start instant a v : ℕ) → c < signals l → Turns (halves (timed l)) (start + a) instant →
+        Named (along (outboundWay (timed l) f) coarse) c instant a v → InsideClear (exactWay l N (λ j. N * f j) exact) N c start v (m l)
     named-inside c start instant a v here begins named y late early =
         let (x, less, at-c) = meets (along (outboundWay (timed l) f) coarse) c instant a around in
         let z = exactWay l N (λ j. N * f j) exact in

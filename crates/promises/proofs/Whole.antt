@@ -30,7 +30,9 @@ module _ (l : Lists) (room : ℕ) (passed : planChecks l room ≡ Passed) (N : �
   nothing = omega (arith, ap (λ (z : ℕ). N * z) none)
 
   -- both exact bands of the equal plan, exactly, under any offsets with its phases and its named bands
-  pub equal-exactly : (f : ℕ → ℕ) → Patterned (timed l) (reference (timed l)) (phase (timed l) (reference (timed l))) f → Bands (timed l) f (equalWidth (timed l)) (equalWidth (timed l)) → Exactly l N f (equalWidth (timed l)) (equalWidth (timed l))
+  pub equal-exactly :
+      (f : ℕ → ℕ) → Patterned (timed l) (reference (timed l)) (phase (timed l) (reference (timed l))) f →
+      Bands (timed l) f (equalWidth (timed l)) (equalWidth (timed l)) → Exactly l N f (equalWidth (timed l)) (equalWidth (timed l))
   equal-exactly f pattern named =
       let s = timed l in
       let c = reference s in
@@ -49,7 +51,9 @@ module _ (l : Lists) (room : ℕ) (passed : planChecks l room ≡ Passed) (N : �
       )
 
   -- beside an exact band of w or more, either way
-  left : (w : ℕ) → 1 ≤ w → (f : ℕ → ℕ) → (N * w ≤ width (exactOutbound l N f) → width (exactInbound l N f) ≤ N * otherWidth (timed l) w) × (N * w ≤ width (exactInbound l N f) → width (exactOutbound l N f) ≤ N * otherWidth (timed l) w)
+  left :
+      (w : ℕ) → 1 ≤ w → (f : ℕ → ℕ) →
+      (N * w ≤ width (exactOutbound l N f) → width (exactInbound l N f) ≤ N * otherWidth (timed l) w) × (N * w ≤ width (exactInbound l N f) → width (exactOutbound l N f) ≤ N * otherWidth (timed l) w)
   left w some f =
       let s = timed l in
       let out = width (exactOutbound l N f) in

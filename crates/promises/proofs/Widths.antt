@@ -77,7 +77,9 @@ module _ (s : Timed) (ok : Fit s) (f : ℕ → ℕ) {lag : ℕ → ℕ} where
       le-antisymm (width-most (along (outboundWay s f) lag) (proper-way s f ok) v most) (named-least c instant a v named)
 
   -- lags that have a like for each stretch have a band as wide
-  pub as-wide : {lag′ : ℕ → ℕ} → ((x k : ℕ) → Passes (along (outboundWay s f) lag′) x k → (y : ℕ) × (y < halves s) × Passes (along (outboundWay s f) lag) y k) → width (along (outboundWay s f) lag′) ≤ width (along (outboundWay s f) lag)
+  pub as-wide :
+      {lag′ : ℕ → ℕ} → ((x k : ℕ) → Passes (along (outboundWay s f) lag′) x k → (y : ℕ) × (y < halves s) × Passes (along (outboundWay s f) lag) y k) →
+      width (along (outboundWay s f) lag′) ≤ width (along (outboundWay s f) lag)
   as-wide {lag′} like =
       width-most (along (outboundWay s f) lag′) (proper-way s f ok) (width (along (outboundWay s f) lag))
       (λ x k p. let (y, l, q) = like x k p in stretch-least y k q)

@@ -12,7 +12,6 @@ use Rattle.street.specs.Times.{timed, m}
 use Rattle.plans.specs.Answers.{verdictOf, numbersOf}
 use Rattle.plans.specs.Moved.{shiftOf}
 use Rattle.plans.specs.Requests.{Requested}
-use Rattle.plans.specs.declared.Plan.{Plan}
 use Rattle.plans.specs.declared.Answer.{Answer}
 use Rattle.plans.specs.declared.Request.{Request}
 use Rattle.plans.specs.declared.Request.the-variants.{Equal}
@@ -37,26 +36,21 @@ ReplyBands =
     let p = numbersOf r .plan in
     BandsKept (shiftOf request (timed l)) (timed l) (λ j. getD exit j 0) (p .reference - 1) (p .starts) (p .outbound) (p .ends) (p .inbound)
 
--- the equal plan by the published method's own formulas, at the reference c with nothing lowered (01, 'The equal plan'): its numbers
-abbrev pub methodPlan : Lists → Plan
-methodPlan l =
-    let s = timed l in
-    let c = reference s in
-    record {
-      reference = c + 1;
-      b = B s;
-      outbound = equalWidth s;
-      inbound = equalWidth s;
-      rounded = m l;
-      starts = redEnd s c (offset s c c);
-      ends = redStart s c (offset s c c);
-    }
-
--- what is asked of it is judged by the checks of every plan alone; and with code 0 the reply's numbers and the offset of every signal are that method's
+-- the equal plan is the published method's own (01, 'The equal plan'): the checks of every plan alone judge a call for it, and with code 0 the reply's numbers and the offset of each signal are
+-- the method's formulas at the reference c, nothing lowered
 abbrev pub EqualIsMethod : Type 0
 EqualIsMethod =
     (l : Lists) (entry exit : List ℕ) (r : Answer) → Requested Equal l entry exit r →
+    let s = timed l in
+    let c = reference s in
+    let p = numbersOf r .plan in
     (verdictOf r ≡ planChecks l (length entry))
     × (numbersOf r .code ≡ 0 →
-    (numbersOf r .plan ≡ methodPlan l)
-    × ((j : ℕ) → j < signals l → getD exit j 0 ≡ offset (timed l) (reference (timed l)) j))
+    (p .reference ≡ c + 1)
+    × (p .b ≡ B s)
+    × (p .outbound ≡ equalWidth s)
+    × (p .inbound ≡ equalWidth s)
+    × (p .rounded ≡ m l)
+    × (p .starts ≡ redEnd s c (offset s c c))
+    × (p .ends ≡ redStart s c (offset s c c))
+    × ((j : ℕ) → j < signals l → getD exit j 0 ≡ offset s c j))

@@ -1,9 +1,9 @@
 -- `cases::measured` meets its contract: each part that is lent is within its array. Assumes nothing.
-use Prim.Native.Nat.{_-_}
 use mathlib.Core.Path.{sym}
 use native.Mathlib.Omega.{arith}
 use lib.Seq.{length-take-le}
 use borrow.Author.Needs.{needs}
+use Rattle.cases.proofs.Parts.{reds-part, distances-part, outbound-part, inbound-part}
 use Rattle.cases.proofs.measured.Statement.{statement}
 use Rattle.cases.proofs.measured.Tie as tie
 
@@ -14,31 +14,33 @@ array-share-prefix-reds : tie.Need-array-share-prefix-reds
 array-share-prefix-reds c = search needs
 
 slice-aggregate-measure : tie.Need-slice-aggregate-measure
-slice-aggregate-measure c = sym (length-take-le (c .before .before .before .before .before .args .s .signals) (c .before .before .before .before .before .args .s .reds) (omega (arith, c .before .before .before .before .before .pre .0 .few, c .before .before .before .before .before .pre .0 .reds)))
+slice-aggregate-measure c = reds-part _ (c .before .before .before .before .before .pre .0)
 
 array-share-prefix-distances : tie.Need-array-share-prefix-distances
 array-share-prefix-distances c = search needs
 
 slice-aggregate-measure-2 : tie.Need-slice-aggregate-measure-2
-slice-aggregate-measure-2 c = sym (length-take-le (c .before .before .before .before .before .before .args .s .signals) (c .before .before .before .before .before .before .args .s .distances) (omega (arith, c .before .before .before .before .before .before .pre .0 .few, c .before .before .before .before .before .before .pre .0 .distances)))
+slice-aggregate-measure-2 c = distances-part _ (c .before .before .before .before .before .before .pre .0)
 
 array-share-prefix-outbound : tie.Need-array-share-prefix-outbound
 array-share-prefix-outbound c = search needs
 
 slice-aggregate-measure-3 : tie.Need-slice-aggregate-measure-3
-slice-aggregate-measure-3 c = sym (length-take-le (c .before .before .before .before .before .before .before .args .s .signals - 1) (c .before .before .before .before .before .before .before .args .s .outbound) (omega (arith, c .before .before .before .before .before .before .before .pre .0 .few, c .before .before .before .before .before .before .before .pre .0 .outbound)))
+slice-aggregate-measure-3 c = outbound-part _ (c .before .before .before .before .before .before .before .pre .0)
 
 array-share-prefix-inbound : tie.Need-array-share-prefix-inbound
 array-share-prefix-inbound c = search needs
 
 slice-aggregate-measure-4 : tie.Need-slice-aggregate-measure-4
-slice-aggregate-measure-4 c = sym (length-take-le (c .before .before .before .before .before .before .before .before .args .s .signals - 1) (c .before .before .before .before .before .before .before .before .args .s .inbound) (omega (arith, c .before .before .before .before .before .before .before .before .pre .0 .few, c .before .before .before .before .before .before .before .before .pre .0 .inbound)))
+slice-aggregate-measure-4 c = inbound-part _ (c .before .before .before .before .before .before .before .before .pre .0)
 
 array-share-prefix-offsets : tie.Need-array-share-prefix-offsets
 array-share-prefix-offsets c = search needs
 
 slice-aggregate-measure-5 : tie.Need-slice-aggregate-measure-5
-slice-aggregate-measure-5 c = sym (length-take-le (c .before .before .before .before .before .before .before .before .before .args .count) (c .before .before .before .before .before .before .before .before .before .args .t3) (omega (arith, c .before .before .before .before .before .before .before .before .before .pre .1, c .before .before .before .before .before .before .before .before .before .pre .2)))
+slice-aggregate-measure-5 c =
+    let start = c .before .before .before .before .before .before .before .before .before in
+    sym (length-take-le (start .args .count) (start .args .t3) (omega (arith, start .pre .1, start .pre .2)))
 
 measure-requires : tie.Need-measure-requires
 measure-requires c κs = search needs

@@ -1,6 +1,6 @@
 -- `cases::on_sheet` meets its contract: an accepted sheet's arrays are whole. Assumes nothing.
-use borrow.Author.Needs.{needs}
 use Rattle.printed.proofs.Ways.{reading-held}
+use borrow.Author.Needs.{needs}
 use Rattle.cases.proofs.on_sheet.Statement.{statement}
 use Rattle.cases.proofs.on_sheet.Tie as tie
 
@@ -16,20 +16,16 @@ show-refusal-requires c κs = search needs
 enum-told : tie.Need-enum-told
 enum-told c = search needs
 
-enum-told-2 : tie.Need-enum-told-2
-enum-told-2 c = search needs
-
-measured-requires : tie.Need-measured-requires
-measured-requires c κs = (reading-held (c .before .before .before .before .before .before .before .args .bytes .now) (c .before .before .before .before .before .read .result) (c .before .before .before .before .before .read .ensures) (c .before .before .before .enum-told .given .1), c .before .before .before .before .before .before .before .pre .0, c .before .before .before .before .before .before .before .pre .1)
-
-array-read-planned : tie.Need-array-read-planned
-array-read-planned c = search needs
-
-array-read-planned-2 : tie.Need-array-read-planned-2
-array-read-planned-2 c = search needs
+enum-known-call : tie.Need-enum-known-call
+enum-known-call c = search needs
 
 planned-requires : tie.Need-planned-requires
-planned-requires c κs = reading-held (c .before .before .before .before .before .before .args .bytes .now) (c .before .before .before .before .read .result) (c .before .before .before .before .read .ensures) (c .before .before .enum-told .given .1)
+planned-requires c κs = reading-held _ _ (c .before .before .before .before .before .before .read .ensures) (c .before .before .before .before .enum-told .given .1)
+
+measured-requires : tie.Need-measured-requires
+measured-requires c κs =
+    let start = c .before .before .before .before .before .before in
+    (reading-held _ _ (c .before .before .before .before .read .ensures) (c .before .before .enum-told .given .1), start .pre .0, start .pre .1)
 
 returns : tie.Need-returns
 returns c = search needs
@@ -48,11 +44,9 @@ on-sheet-spec =
     enum-known-verdict
     show-refusal-requires
     enum-told
-    enum-told-2
-    measured-requires
-    array-read-planned
-    array-read-planned-2
+    enum-known-call
     planned-requires
+    measured-requires
     returns
     returns-2
     returns-3)

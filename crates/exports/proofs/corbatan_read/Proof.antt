@@ -32,7 +32,13 @@ returns-2 : tie.Need-returns-2
 returns-2 c =
     let at-read = c .before .before .before .before .before .before in
     let at-verdict = c .before .before .before in
-    reading-refused (at-read .read .result) (readingOf (at-read .before .before .args .bytes .now)) (c .numbered2 .result) (at-read .read .ensures) (at-verdict .verdict .given .0 .0) (c .before .code-number .result) (at-verdict .verdict .given .1) (c .before .code-number .ensures) (c .numbered2 .ensures)
+    let code = c .before .code-number in
+    reading-refused (at-read .read .result) (readingOf (at-read .before .before .args .bytes .now)) (c .numbered2 .result) (at-read .read .ensures)
+    (at-verdict .verdict .given .0 .0)
+    (code .result)
+    (at-verdict .verdict .given .1)
+    (code .ensures)
+    (c .numbered2 .ensures)
 
 pub corbatan-read-spec : {M : Type 1} → statement M
 corbatan-read-spec =

@@ -83,7 +83,9 @@ enum-known-verdict c = search needs
 returns : tie.Need-returns
 returns c =
     let c0 = c .before .before .before .before .before .before .before .before .before in
-    requested-refused (c0 .args .request) (lists c0) (lent c0) _ (verdict-checks (lists c0) (length (lent c0)) (c .before .before .before .new .result) _ (c .before .before .before .new .ensures) (c .before .verdict .given .1))
+    let found = c .before .before .before .new in
+    requested-refused (c0 .args .request) (lists c0) (lent c0) _
+    (verdict-checks (lists c0) (length (lent c0)) (found .result) _ (found .ensures) (c .before .verdict .given .1))
 
 enum-told : tie.Need-enum-told
 enum-told c = search needs
@@ -113,14 +115,17 @@ mul-f : tie.Need-mul-f
 mul-f c = omega (arith, reference-in (c .before .before .before .before .before .before .before .before))
 
 slice-read-f : tie.Need-slice-read-f
-slice-read-f c = omega (arith, reference-in (c .before .before .before .before .before .before .before .before .before), room (c .before .before .before .before .before .before .before .before .before .before .before))
+slice-read-f c =
+    let r = c .before .before .before .before .before .before .before .before .before in
+    omega (arith, reference-in r, room (r .before .before))
 
 numbers-requires : tie.Need-numbers-requires
 numbers-requires c κs =
     let r = c .before .before .before .before .before .before .before .before .before in
     let found = r .reference .result in
-    let shift = c .before .before .before .before .before .settle .result in
-    (ready r .base, ready r .found, narrow (c .before .before .before .before .before), own-written (survey (r .before .before) .street) (r .before .reduced .result) (found .signal) (found .raised) shift (lent (entry (r .before .before))) _ (ready r) (c .before .before .before .write .ensures))
+    let settled = c .before .before .before .before .before in
+    let s = r .before .before in
+    (ready r .base, ready r .found, narrow settled, own-written (survey s .street) (r .before .reduced .result) (found .signal) (found .raised) (settled .settle .result) (lent (entry s)) _ (ready r) (c .before .before .before .write .ensures))
 
 returns-2 : tie.Need-returns-2
 returns-2 c =
@@ -138,7 +143,13 @@ returns-3 c =
     let c0 = entry s in
     let shift = c .before .before .before .before .before .before .settle in
     let wrote = c .before .before .before .before .write in
-    requested-planned (c0 .args .request) (lists c0) (lent c0) (wrote .last .1 .1 .1 .1 .1 .0) (survey s .street) (shift .result) (c .numbers .result) (passed s) (street-is s) (asked-passed asked) (shift .ensures) (wrote .ensures) (c .numbers .ensures)
+    requested-planned (c0 .args .request) (lists c0) (lent c0) (wrote .last .1 .1 .1 .1 .1 .0) (survey s .street) (shift .result) (c .numbers .result)
+    (passed s)
+    (street-is s)
+    (asked-passed asked)
+    (shift .ensures)
+    (wrote .ensures)
+    (c .numbers .ensures)
 
 pub plan-for-spec : {M : Type 1} → statement M
 plan-for-spec =

@@ -1,13 +1,14 @@
--- `cases::requests::numbers` meets its contract. The loop's invariant: `at` lies within the bytes, and at most 64 numbers are kept. Assumes nothing.
+-- `cases::requests::numbers` meets its contract. The loop's invariant: `at` lies within the bytes, and at most so many numbers are kept as fit. Assumes nothing.
 use Prim.Native.Nat.{_-_, _≤_}
 use mathlib.Core.Path.{_≡_, refl}
 use lib.ListN.{length}
 use borrow.Author.Needs.{needs}
+use Rattle.cases.specs.Lines.{maxEntries}
 use Rattle.cases.proofs.requests.numbers.Statement.{statement}
 use Rattle.cases.proofs.requests.numbers.Tie as tie
 
 abbrev Inv-loop : tie.InvT-loop
-Inv-loop bytes from list₀ count₀ at₀ list count at = (at ≤ length bytes) × (count ≤ 64) × (length list ≡ 64)
+Inv-loop bytes from list₀ count₀ at₀ list count at = (at ≤ length bytes) × (count ≤ maxEntries) × (length list ≡ maxEntries)
 
 abbrev μ-loop : tie.MeasureT-loop
 μ-loop bytes from list₀ count₀ at₀ list count at = length bytes - at
