@@ -1,5 +1,6 @@
 // The program: a street sheet on standard input, its equal plan on standard output. Everything that matters stands in `printed`; here
 // the bytes only come in and go out. One byte more than a sheet may have is asked for, so that a sheet that is too long is seen to be.
+use sheet::Sheet;
 use street::Street;
 ghost use mathlib.Core.Path.{_≡_};
 ghost use Rattle.street.specs.Limits.{maxSignals};
@@ -17,7 +18,7 @@ fn send(sheet: &[u8], text: &[u8])
 }
 
 fn main() {
-    let mut input = [0u8; 2049];
+    let mut input = [0u8; Sheet::MAX_BYTES + 1];
     let got = io::read_full(0, &mut input);
     let answer = printed::equal_text(&input[..got], Street::MAX_SIGNALS);
     let bytes = answer.bytes;

@@ -3,9 +3,9 @@ use mathlib.Core.Path.{_≡_, refl}
 use mathlib.Core.List.{[], _∷_}
 use lib.IntN.{pos, negsuc}
 use Rattle.street.specs.declared.Code.the-variants as code
-use Rattle.sheet.specs.Decimal.{digitsUpTo, decimal}
+use Rattle.decimal.specs.Decimal.{digitsUpTo}
 use Rattle.plans.specs.declared.Answer.the-variants as answer
-use Rattle.printed.specs.Text.{signedDecimal, offsetLines, textOf}
+use Rattle.printed.specs.Text.{offsetLines, textOf}
 
 -- 01's example: `1 60 60 60 0`, `0` and `10`
 street-a :
@@ -34,12 +34,3 @@ speed :
     ≡ 114 ∷ 101 ∷ 102 ∷ 117 ∷ 115 ∷ 101 ∷ 100 ∷ 32 ∷ 55 ∷ 32 ∷ 51 ∷ 10 ∷ []
 unfolding digitsUpTo
 speed = refl
-
--- the least B that its type holds, -2147483648, and the largest number, 4294967295
-least : signedDecimal (negsuc 2147483647) ≡ 45 ∷ 50 ∷ 49 ∷ 52 ∷ 55 ∷ 52 ∷ 56 ∷ 51 ∷ 54 ∷ 52 ∷ 56 ∷ []
-unfolding digitsUpTo
-least = refl
-
-largest : decimal 4294967295 ≡ 52 ∷ 50 ∷ 57 ∷ 52 ∷ 57 ∷ 54 ∷ 55 ∷ 50 ∷ 57 ∷ 53 ∷ []
-unfolding digitsUpTo
-largest = refl

@@ -1,8 +1,5 @@
 -- What the proofs of several functions use, and the definitions run on examples.
 mod Sizes
-mod Buffers
-mod Decimals
-mod Signs
 mod Lines
 mod Examples
 pub mod Ways

@@ -29,7 +29,7 @@ use Rattle.plans.specs.declared.Answer.{Answer}
 use Rattle.plans.specs.declared.Request.the-variants.{Equal}
 use Rattle.plans.specs.declared.widths.Shift.the-variants.{Unmoved}
 use Rattle.printed.specs.declared.Printed.{Printed}
-use Rattle.printed.specs.Text.{planLine, offsetLines, refusalLine, textOf, Prints}
+use Rattle.printed.specs.Text.{maxText, planLine, offsetLines, refusalLine, textOf, Prints}
 use Rattle.printed.specs.Way.{listsOf, lentOf, planText, answerText, equalText, Held}
 
 pub lent-room : (room : ℕ) → room < maxSignals → room ≡ lentOf room
@@ -44,6 +44,13 @@ lent-le room k e = go (decLt room maxSignals)
     go : Dec (room < maxSignals) → k ≤ maxSignals
     go (yes l) = omega (arith, e, lent-room room l)
     go (no n) = let l : maxSignals ≤ room = omega arith in omega (arith, e, lent-whole room l)
+
+pub lent-few : (n : ℕ) → n ≤ maxSignals → lentOf n ≡ n
+lent-few n few = go (decLt n maxSignals)
+  where
+    go : Dec (n < maxSignals) → lentOf n ≡ n
+    go (yes l) = sym (lent-room n l)
+    go (no more) = let l : maxSignals ≤ n = omega arith in sym (lent-whole n l) ∙ omega arith
 
 zeros : ℕ → List ℕ
 zeros n = replicate n 0
@@ -137,7 +144,7 @@ refused-text bytes room r f e q = go (parsed bytes) (sym (ap (λ x. x .verdict) 
 -- a text lies within its buffer
 pub text-within : {t : List ℕ} {r : Printed} → Prints t r → r .count ≤ length (r .bytes)
 text-within {t} {r} ok =
-    omega (arith, ap (λ p. p .count) (ok .reply), ap (λ p. length (p .bytes)) (ok .reply), length-append t (drop (length t) (replicate 512 0)))
+    omega (arith, ap (λ p. p .count) (ok .reply), ap (λ p. length (p .bytes)) (ok .reply), length-append t (drop (length t) (replicate maxText 0)))
 
 pub text-count : {t : List ℕ} {r : Printed} → Prints t r → r .count ≡ length (take (r .count) (r .bytes))
 text-count {t} {r} ok = sym (length-take-le (r .count) (r .bytes) (text-within ok))
@@ -145,4 +152,4 @@ text-count {t} {r} ok = sym (length-take-le (r .count) (r .bytes) (text-within o
 -- and the counted bytes are the text
 pub text-is : {t : List ℕ} {r : Printed} → Prints t r → take (r .count) (r .bytes) ≡ t
 text-is {t} {r} ok =
-    ap (λ p. take (p .count) (p .bytes)) (ok .reply) ∙ take-append-seam t (drop (length t) (replicate 512 0))
+    ap (λ p. take (p .count) (p .bytes)) (ok .reply) ∙ take-append-seam t (drop (length t) (replicate maxText 0))

@@ -1,3 +1,2 @@
 pub mod Text
-pub mod Added
 pub mod Way

@@ -1,21 +1,19 @@
--- The text of an answer, byte by byte (01, 'The printed plan'). Byte 32 is a space, 10 the line end, 45 the minus sign.
-use Prim.Native.Nat.{ℕ, suc}
+-- The text of an answer, byte by byte (01, 'The printed plan'). Byte 32 is a space, 10 the line end.
+use Prim.Native.Nat.{ℕ}
 use mathlib.Core.Path.{_≡_}
 use mathlib.Core.List.{List, [], _∷_, _++_}
 use lib.ListN.{length, drop, replicate}
-use lib.IntN.{ℤ, pos, negsuc}
 use Rattle.street.specs.Codes.{codeNumber}
 use Rattle.street.specs.declared.Refusal.{Refusal}
-use Rattle.sheet.specs.Decimal.{decimal}
+use Rattle.decimal.specs.Decimal.{decimal, signedDecimal}
 use Rattle.plans.specs.declared.Plan.{Plan}
 use Rattle.plans.specs.declared.Answer.{Answer}
 use Rattle.plans.specs.declared.Answer.the-variants as answer
 use Rattle.printed.specs.declared.Printed.{Printed}
 
--- a signed number's digits, with a minus sign directly before them where it is negative: `negsuc n` is -(n + 1)
-abbrev pub signedDecimal : ℤ → List ℕ
-signedDecimal (pos n) = decimal n
-signedDecimal (negsuc n) = 45 ∷ decimal (suc n)
+-- the most bytes that a text has room for
+abbrev pub maxText : ℕ
+maxText = 512
 
 -- items with one space between each two
 abbrev pub spaced : List (List ℕ) → List ℕ
@@ -56,9 +54,9 @@ abbrev pub textOf : Answer → List ℕ → List ℕ
 textOf (answer.Planned p) offsets = planLine p ++ offsetLines offsets
 textOf (answer.Refused f) offsets = refusalLine f
 
--- a text as the printer hands it over: the bytes, zeros up to 512, and how many are text
+-- a text as the printer hands it over: the bytes, zeros up to its end, and how many are text
 abbrev pub printedOf : List ℕ → Printed
-printedOf t = record { bytes = t ++ drop (length t) (replicate 512 0); count = length t }
+printedOf t = record { bytes = t ++ drop (length t) (replicate maxText 0); count = length t }
 
 -- the contract of what prints: the reply is the text's
 pub record Prints (t : List ℕ) (r : Printed) : Type 0 where

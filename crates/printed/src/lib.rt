@@ -1,4 +1,5 @@
-// The printed plan: an answer's text as bytes, in a buffer that goes in by value and comes back longer (01, 'The printed plan').
+// The printed plan: an answer's text as bytes (01, 'The printed plan'). Each step writes some bytes of it into a lent list, from a place
+// on, and answers the next place.
 use plans::Answer;
 use plans::Plan;
 use sheet::Sheet;
@@ -6,139 +7,119 @@ use street::Refusal;
 use street::Street;
 use street::Verdict;
 use street::code_number;
-ghost use Prim.Native.Nat.{_+_, _*_, _<_, _≤_};
+ghost use Prim.Native.Nat.{_+_, _≤_};
 ghost use mathlib.Core.Path.{_≡_};
 ghost use mathlib.Core.List.{[], _∷_, _++_};
 ghost use lib.ListN.{length, take};
-ghost use Rattle.sheet.specs.Decimal.{decimal};
-ghost use Rattle.printed.specs.Text.{signedDecimal, planLine, offsetLines, refusalLine, textOf, printedOf, Prints};
-ghost use Rattle.printed.specs.Added.{Added};
+ghost use Rattle.street.specs.Limits.{maxSignals};
+ghost use Rattle.decimal.specs.Decimal.{decimal};
+ghost use Rattle.decimal.specs.Writing.{Writes};
+ghost use Rattle.printed.specs.Text.{maxText, planLine, offsetLines, refusalLine, textOf, printedOf, Prints};
 ghost use Rattle.printed.specs.Way.{listsOf, lentOf, planText, equalText, Held};
 
-// The bytes that are neither letters nor digits, and the digit 0.
+// The bytes that end a number: within a line and at its end.
 const SPACE: u8 = 32;
 
 const LINE_END: u8 = 10;
 
-const MINUS: u8 = 45;
-
-const ZERO: u8 = 48;
-
-// The printed bytes and how many they are; the rest of `bytes` is 0. A plan's first line takes at most 56 bytes, each of 32 offsets 11
-// and a refusal 30, so there is room for every text.
+// The printed bytes and how many they are; the rest of `bytes` is 0.
 pub struct Printed {
-    pub bytes: [u8; 512],
+    pub bytes: [u8; Printed::MAX_BYTES],
     pub count: usize,
 }
 
-// The text and one byte more.
-fn put(p: Printed, byte: u8) -> Printed
-    requires { ⌜ p .count < 512 ⌝ }
-    ensures { λ r. ⌜ Added p (byte ∷ []) 1 r ⌝ }
+impl Printed {
+    // Room for every text: a plan's first line takes at most 56 bytes, each of 32 offsets 11, and a refusal 30.
+    pub const MAX_BYTES: usize = 512;
+}
+
+// The limit of the code is that of the definition. The body is empty: the contract is all there is to this.
+fn limits()
+    ensures { λ _. do
+      most ← ⟦Printed::MAX_BYTES⟧ .entry
+      ⌜ most ≡ maxText ⌝ }
+{}
+
+// A number and the byte that ends it.
+fn number(bytes: &mut [u8], at: usize, x: u32, end: u8) -> usize
+    requires { ⌜ at + length (decimal x ++ end ∷ []) ≤ length (now bytes) ⌝ }
+    ensures { λ r. ⌜ Writes at (decimal x ++ end ∷ []) (now (bytes .entry)) (now (bytes .exit)) r ⌝ }
 {
-    let at = p.count;
-    let mut bytes = p.bytes;
-    bytes[at] = byte;
-    Printed {
-        bytes,
-        count: at + 1,
+    let next = decimal::write(bytes, at, x);
+    bytes[next] = end;
+    next + 1
+}
+
+// A plan's first line.
+fn plan_line(bytes: &mut [u8], at: usize, plan: Plan) -> usize
+    requires { ⌜ at + length (planLine plan) ≤ length (now bytes) ⌝ }
+    ensures { λ r. ⌜ Writes at (planLine plan) (now (bytes .entry)) (now (bytes .exit)) r ⌝ }
+{
+    let c = number(bytes, at, plan.reference, SPACE);
+    let b = decimal::write_signed(bytes, c, plan.b);
+    bytes[b] = SPACE;
+    let outbound = number(bytes, b + 1, plan.outbound, SPACE);
+    let inbound = number(bytes, outbound, plan.inbound, SPACE);
+    number(bytes, inbound, plan.rounded, LINE_END)
+}
+
+// A line for each offset.
+fn offset_lines(bytes: &mut [u8], at: usize, offsets: &[u32]) -> usize
+    requires { ⌜ at + length (offsetLines (now offsets)) ≤ length (now bytes) ⌝ }
+    ensures { λ r. ⌜ Writes at (offsetLines (now (offsets .entry))) (now (bytes .entry)) (now (bytes .exit)) r ⌝ }
+{
+    let mut next = at;
+    for i in 0..offsets.len() {
+        next = number(bytes, next, offsets[i], LINE_END);
     }
+    next
 }
 
-// The text and a number's digits. The last digit comes from x itself and those before it from x / 10, so they go in first.
-fn digits(p: Printed, x: u32) -> Printed
-    requires { ⌜ p .count + 10 ≤ 512 ⌝ }
-    ensures { λ r. ⌜ Added p (decimal x) 10 r ⌝ }
+// Some bytes as they are.
+fn copied(bytes: &mut [u8], at: usize, word: &[u8]) -> usize
+    requires { ⌜ at + length (now word) ≤ length (now bytes) ⌝ }
+    ensures { λ r. ⌜ Writes at (now (word .entry)) (now (bytes .entry)) (now (bytes .exit)) r ⌝ }
 {
-    if x < 10 {
-        put(p, ZERO + (x as u8))
-    } else {
-        put(digits(p, x / 10), ZERO + ((x % 10) as u8))
+    for i in 0..word.len() {
+        bytes[at + i] = word[i];
     }
+    at + word.len()
 }
 
-// The text, a number and the byte that ends it: a space or a line end.
-fn number(p: Printed, x: u32, end: u8) -> Printed
-    requires { ⌜ p .count + 11 ≤ 512 ⌝ }
-    ensures { λ r. ⌜ Added p (decimal x ++ end ∷ []) 11 r ⌝ }
-{
-    put(digits(p, x), end)
-}
-
-// The same for a signed number. The magnitude is taken in 64 bits, where that of the least i32 fits.
-fn signed(p: Printed, z: i32, end: u8) -> Printed
-    requires { ⌜ p .count + 12 ≤ 512 ⌝ }
-    ensures { λ r. ⌜ Added p (signedDecimal z ++ end ∷ []) 12 r ⌝ }
-{
-    if z < 0 {
-        let wide = z as i64;
-        number(put(p, MINUS), (0 - wide) as u32, end)
-    } else {
-        number(p, z as u32, end)
-    }
-}
-
-// The text and a plan's first line.
-fn plan_line(p: Printed, plan: Plan) -> Printed
-    requires { ⌜ p .count + 56 ≤ 512 ⌝ }
-    ensures { λ r. ⌜ Added p (planLine plan) 56 r ⌝ }
-{
-    let c = number(p, plan.reference, SPACE);
-    let b = signed(c, plan.b, SPACE);
-    let outbound = number(b, plan.outbound, SPACE);
-    let inbound = number(outbound, plan.inbound, SPACE);
-    number(inbound, plan.rounded, LINE_END)
-}
-
-// The text and a line for each of the first offsets.
-fn offset_lines(p: Printed, signals: usize, offsets: [u32; 32]) -> Printed
-    requires { ⌜ (signals ≤ 32) × (p .count + 11 * signals ≤ 512) ⌝ }
-    ensures { λ r. ⌜ Added p (offsetLines (take signals offsets)) (11 * signals) r ⌝ }
-{
-    let mut lines = p;
-    for i in 0..signals {
-        lines = number(lines, offsets[i], LINE_END);
-    }
-    lines
-}
-
-// The text and some bytes more.
-fn put_all(p: Printed, bytes: &[u8]) -> Printed
-    requires { ⌜ p .count + length (now bytes) ≤ 512 ⌝ }
-    ensures { λ r. ⌜ Added p (now (bytes .entry)) (length (now (bytes .entry))) r ⌝ }
-{
-    let mut text = p;
-    for i in 0..bytes.len() {
-        text = put(text, bytes[i]);
-    }
-    text
-}
-
-// The text and a refusal's line.
-fn refusal_line(p: Printed, refusal: Refusal) -> Printed
-    requires { ⌜ p .count + 30 ≤ 512 ⌝ }
-    ensures { λ r. ⌜ Added p (refusalLine refusal) 30 r ⌝ }
+// A refusal's line.
+fn refusal_line(bytes: &mut [u8], at: usize, refusal: Refusal) -> usize
+    requires { ⌜ at + length (refusalLine refusal) ≤ length (now bytes) ⌝ }
+    ensures { λ r. ⌜ Writes at (refusalLine refusal) (now (bytes .entry)) (now (bytes .exit)) r ⌝ }
 {
     let kind = refusal.code;
     let code = code_number(kind);
-    let word = put_all(p, b"refused ");
-    let coded = number(word, code, SPACE);
-    number(coded, refusal.place, LINE_END)
+    let word = copied(bytes, at, b"refused ");
+    let coded = number(bytes, word, code, SPACE);
+    number(bytes, coded, refusal.place, LINE_END)
 }
 
-// The whole text of an answer, of whose offsets the first `signals` are printed.
-fn text(answer: Answer, signals: usize, offsets: [u32; 32]) -> Printed
-    requires { ⌜ signals ≤ 32 ⌝ }
-    ensures { λ r. ⌜ r ≡ printedOf (textOf answer (take signals offsets)) ⌝ }
+// An answer's lines, from the list's start.
+fn answer_lines(bytes: &mut [u8], answer: Answer, offsets: &[u32]) -> usize
+    requires { ⌜ length (textOf answer (now offsets)) ≤ length (now bytes) ⌝ }
+    ensures { λ r. ⌜ Writes 0 (textOf answer (now (offsets .entry))) (now (bytes .entry)) (now (bytes .exit)) r ⌝ }
 {
-    let empty = Printed {
-        bytes: [0u8; 512],
-        count: 0,
-    };
     match answer {
-        Answer::Planned(plan) => offset_lines(plan_line(empty, plan), signals, offsets),
-        Answer::Refused(refusal) => refusal_line(empty, refusal),
+        Answer::Planned(plan) => {
+            let next = plan_line(bytes, 0, plan);
+            offset_lines(bytes, next, offsets)
+        }
+        Answer::Refused(refusal) => refusal_line(bytes, 0, refusal),
     }
+}
+
+// The whole text of an answer with these offsets.
+fn text(answer: Answer, offsets: &[u32]) -> Printed
+    requires { ⌜ length (now offsets) ≤ maxSignals ⌝ }
+    ensures { λ r. ⌜ r ≡ printedOf (textOf answer (now (offsets .entry))) ⌝ }
+{
+    let mut bytes = [0u8; Printed::MAX_BYTES];
+    let count = answer_lines(&mut bytes, answer, offsets);
+    Printed { bytes, count }
 }
 
 // How many entries a list of some room has here: 32 are enough for every street.
@@ -152,11 +133,11 @@ pub fn lent(room: usize) -> usize
 }
 
 // The text of any call's answer, of whose offsets the first `signals` are printed, 32 at most.
-pub fn answer_text(answer: Answer, signals: usize, offsets: [u32; 32]) -> Printed
+pub fn answer_text(answer: Answer, signals: usize, offsets: [u32; Street::MAX_SIGNALS]) -> Printed
     ensures { λ r. ⌜ Prints (textOf answer (take (lentOf signals) offsets)) r ⌝ }
 {
     let n = lent(signals);
-    text(answer, n, offsets)
+    text(answer, &offsets[..n])
 }
 
 // A sheet's numbers, planned and printed.
@@ -170,7 +151,7 @@ fn planned(s: Sheet, room: usize) -> Printed
     let distances = s.distances;
     let outbound = s.outbound;
     let inbound = s.inbound;
-    let mut offsets = [0u32; 32];
+    let mut offsets = [0u32; Street::MAX_SIGNALS];
     let k = lent(room);
     let answer = plans::equal(
         s.cycle,
@@ -180,7 +161,7 @@ fn planned(s: Sheet, room: usize) -> Printed
         &inbound[..links],
         &mut offsets[..k],
     );
-    text(answer, n, offsets)
+    answer_text(answer, n, offsets)
 }
 
 // The whole way: from a sheet's bytes to the printed bytes of its equal plan, over a lent list of `room` entries that are 0.
@@ -190,7 +171,7 @@ pub fn equal_text(bytes: &[u8], room: usize) -> Printed
     let reading = sheet::read(bytes);
     let verdict = reading.verdict;
     match verdict {
-        Verdict::Refused(f) => text(Answer::Refused(f), 0, [0u32; 32]),
+        Verdict::Refused(f) => text(Answer::Refused(f), &[]),
         Verdict::Passed => {
             let numbers = reading.sheet;
             planned(numbers, room)

@@ -8,7 +8,7 @@ use Rattle.street.specs.Lists.{Lists}
 use Rattle.street.specs.declared.Code.the-variants as code
 use Rattle.street.specs.declared.Verdict.the-variants as verdict
 use Rattle.sheet.specs.declared.Reading.{Reading}
-use Rattle.sheet.specs.Decimal.{digitsUpTo}
+use Rattle.decimal.specs.Decimal.{digitsUpTo}
 use Rattle.sheet.specs.Bytes.{kindOf}
 use Rattle.sheet.specs.Numbers.{more, number}
 use Rattle.sheet.specs.Sections.{pairs, section, cycleSection}

@@ -13,7 +13,7 @@ use Rattle.street.specs.Lists.{Lists, signals}
 use Rattle.street.specs.declared.Code.{Code}
 use Rattle.street.specs.declared.Code.the-variants.{Sheet}
 use Rattle.street.specs.declared.Verdict.the-variants.{Passed}
-use Rattle.sheet.specs.Decimal.{decimal}
+use Rattle.decimal.specs.Decimal.{decimal}
 use Rattle.sheet.specs.Bytes.{maxBytes, lineEnd}
 use Rattle.sheet.specs.Numbers.{thenLine}
 use Rattle.sheet.specs.Sections.{Lines, lines, fault, pairs, section, cycleSection}

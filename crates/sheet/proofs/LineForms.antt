@@ -8,7 +8,7 @@ use native.Mathlib.Omega.{arith}
 use lib.Dec.{eqb, lit<}
 use lib.ListN.{length}
 use borrow.Author.Tests.{le-leb, eqb-true}
-use Rattle.sheet.specs.Decimal.{decimal}
+use Rattle.decimal.specs.Decimal.{decimal}
 use Rattle.sheet.specs.Bytes.{space, lineEnd}
 use Rattle.sheet.specs.Numbers.{Taken, spaced, ended, unreadable, number}
 use Rattle.sheet.specs.Sections.{lines, pairs, section, cycleSection}

@@ -1,4 +1,3 @@
-pub mod Decimal
 pub mod Bytes
 pub mod Numbers
 pub mod Sections

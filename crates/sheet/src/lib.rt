@@ -4,7 +4,7 @@ ghost use mathlib.Core.Path.{_≡_};
 ghost use Prim.Native.Nat.{_≤_};
 ghost use lib.ListN.{drop};
 ghost use Rattle.street.specs.Limits.{maxSignals};
-ghost use Rattle.sheet.specs.Bytes.{kindOf};
+ghost use Rattle.sheet.specs.Bytes.{maxBytes, kindOf};
 ghost use Rattle.sheet.specs.Numbers.{number, more};
 ghost use Rattle.sheet.specs.Sections.{pairs, section, cycleSection};
 ghost use Rattle.sheet.specs.Reading.{readingOf, refusing};
@@ -18,10 +18,10 @@ use street::Verdict;
 pub struct Sheet {
     pub signals: usize,
     pub cycle: u32,
-    pub reds: [u32; 32],
-    pub distances: [u32; 32],
-    pub outbound: [u32; 32],
-    pub inbound: [u32; 32],
+    pub reds: [u32; Street::MAX_SIGNALS],
+    pub distances: [u32; Street::MAX_SIGNALS],
+    pub outbound: [u32; Street::MAX_SIGNALS],
+    pub inbound: [u32; Street::MAX_SIGNALS],
 }
 
 // A reading: the verdict, and beside it the numbers, which are all 0 where the verdict is a refusal.
@@ -30,8 +30,17 @@ pub struct Reading {
     pub sheet: Sheet,
 }
 
-// A longer sheet is refused before anything of it is read.
-pub const MAX_BYTES: usize = 2_048;
+impl Sheet {
+    // A longer sheet is refused before anything of it is read.
+    pub const MAX_BYTES: usize = 2_048;
+}
+
+// The limit of the code is that of the definition. The body is empty: the contract is all there is to this.
+fn limits()
+    ensures { λ _. do
+      most ← ⟦Sheet::MAX_BYTES⟧ .entry
+      ⌜ most ≡ maxBytes ⌝ }
+{}
 
 // What a byte is to the reader.
 enum Byte {
@@ -58,8 +67,8 @@ enum Stand {
 struct Columns {
     end: Stand,
     lines: usize,
-    left: [u32; 32],
-    right: [u32; 32],
+    left: [u32; Street::MAX_SIGNALS],
+    right: [u32; Street::MAX_SIGNALS],
 }
 
 // Every decision on a byte is taken here.
@@ -122,8 +131,8 @@ fn faulty(code: Code) -> Columns
     Columns {
         end: Stand::Fault(code),
         lines: 0,
-        left: [0; 32],
-        right: [0; 32],
+        left: [0; Street::MAX_SIGNALS],
+        right: [0; Street::MAX_SIGNALS],
     }
 }
 
@@ -132,8 +141,8 @@ fn columns_at(bytes: &[u8], from: usize, count: usize) -> Columns
     requires { ⌜ count ≤ maxSignals ⌝ }
     ensures { λ r. ⌜ columns (now (bytes .entry)) r ≡ inArrays (pairs count (drop from (now (bytes .entry)))) ⌝ }
 {
-    let mut left = [0u32; 32];
-    let mut right = [0u32; 32];
+    let mut left = [0u32; Street::MAX_SIGNALS];
+    let mut right = [0u32; Street::MAX_SIGNALS];
     let mut at = from;
     for i in 0..count {
         let Number::Spaced(x, next) = number_at(bytes, at) else {
@@ -194,10 +203,10 @@ fn refused(code: Code) -> Reading
         sheet: Sheet {
             signals: 0,
             cycle: 0,
-            reds: [0; 32],
-            distances: [0; 32],
-            outbound: [0; 32],
-            inbound: [0; 32],
+            reds: [0; Street::MAX_SIGNALS],
+            distances: [0; Street::MAX_SIGNALS],
+            outbound: [0; Street::MAX_SIGNALS],
+            inbound: [0; Street::MAX_SIGNALS],
         },
     }
 }
@@ -227,7 +236,7 @@ fn accepted(cycle: u32, signals: Columns, links: Columns) -> Reading
 pub fn read(bytes: &[u8]) -> Reading
     ensures { λ r. ⌜ r ≡ readingOf (now (bytes .entry)) ⌝ }
 {
-    if bytes.len() > MAX_BYTES {
+    if bytes.len() > Sheet::MAX_BYTES {
         return refused(Code::Sheet);
     }
     let Number::Ended(cycle, at) = cycle_at(bytes, 0) else {

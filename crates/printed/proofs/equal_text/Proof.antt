@@ -1,16 +1,28 @@
 -- `printed::equal_text` meets its contract: a refused reading's line, or the text of the lists that were read. Assumes nothing.
+use Prim.Native.Nat.{ℕ}
 use mathlib.Core.Path.{ap, _∙_}
+use mathlib.Core.List.{List}
 use borrow.Author.Needs.{needs}
 use Rattle.printed.specs.Text.{printedOf}
 use Rattle.printed.proofs.Ways.{reading-held, accepted-text, refused-text}
 use Rattle.printed.proofs.equal_text.Statement.{statement}
 use Rattle.printed.proofs.equal_text.Tie as tie
 
+-- once the sheet is read: its bytes and the room
+abbrev sheet : tie.After-read → List ℕ
+sheet c = c .before .before .args .bytes .now
+
+abbrev room : tie.After-read → ℕ
+room c = c .before .before .args .room
+
 read-requires : tie.Need-read-requires
 read-requires c κs = search needs
 
 enum-known-verdict : tie.Need-enum-known-verdict
 enum-known-verdict c = search needs
+
+slice-aggregate-text : tie.Need-slice-aggregate-text
+slice-aggregate-text c = search needs
 
 text-requires : tie.Need-text-requires
 text-requires c κs = search needs
@@ -19,13 +31,23 @@ enum-told : tie.Need-enum-told
 enum-told c = search needs
 
 planned-requires : tie.Need-planned-requires
-planned-requires c κs = reading-held (c .before .before .before .before .before .args .bytes .now) (c .before .before .before .read .result) (c .before .before .before .read .ensures) (c .before .enum-told .given .1)
+planned-requires c κs =
+    let r = c .before .before .before in
+    reading-held (sheet r) (r .read .result) (r .read .ensures) (c .before .enum-told .given .1)
 
 returns : tie.Need-returns
-returns c = record { reply = c .text .ensures ∙ ap printedOf (refused-text (c .before .before .before .before .before .before .args .bytes .now) (c .before .before .before .before .before .before .args .room) (c .before .before .before .before .read .result) _ (c .before .before .before .before .read .ensures) (c .before .before .verdict .given .1)) }
+returns c =
+    let v = c .before .before .before in
+    let r = v .before .before in
+    let line = refused-text (sheet r) (room r) (r .read .result) _ (r .read .ensures) (v .verdict .given .1) in
+    record { reply = c .text .ensures ∙ ap printedOf line }
 
 returns-2 : tie.Need-returns-2
-returns-2 c = record { reply = c .planned .ensures ∙ ap printedOf (accepted-text (c .before .before .before .before .before .before .args .bytes .now) (c .before .before .before .before .before .before .args .room) (c .before .before .before .before .read .result) (c .before .before .before .before .read .ensures) (c .before .before .enum-told .given .1)) }
+returns-2 c =
+    let told = c .before .before in
+    let r = told .before .before in
+    let text = accepted-text (sheet r) (room r) (r .read .result) (r .read .ensures) (told .enum-told .given .1) in
+    record { reply = c .planned .ensures ∙ ap printedOf text }
 
 pub equal-text-spec : {M : Type 1} → statement M
 equal-text-spec =
@@ -33,6 +55,7 @@ equal-text-spec =
     (tie.spec
     read-requires
     enum-known-verdict
+    slice-aggregate-text
     text-requires
     enum-told
     planned-requires

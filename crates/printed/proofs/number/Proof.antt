@@ -1,17 +1,34 @@
 -- `number` meets its contract: it writes the digits and then the end byte, which is writing both at once. Assumes nothing.
+use native.Mathlib.Omega.{arith}
+use mathlib.Core.List.{[], _∷_}
 use borrow.Author.Needs.{needs}
-use Rattle.printed.proofs.Buffers.{added-twice}
+use Rattle.decimal.specs.Decimal.{decimal}
+use Rattle.decimal.proofs.Writing.{writes-ended, room-first, room-left}
 use Rattle.printed.proofs.number.Statement.{statement}
 use Rattle.printed.proofs.number.Tie as tie
 
-digits-requires : tie.Need-digits-requires
-digits-requires c κs = search needs
+write-requires : tie.Need-write-requires
+write-requires c κs =
+    let start = c .before .before in
+    room-first (start .args .at) _ (decimal (start .args .x)) (start .args .end ∷ []) (start .pre)
 
-put-requires : tie.Need-put-requires
-put-requires c κs = search needs
+slice-write-bytes : tie.Need-slice-write-bytes
+slice-write-bytes c =
+    let start = c .before .before .before .before .before in
+    omega (arith, room-left (start .args .end ∷ []) (c .before .before .write .ensures) (start .pre))
+
+add-result : tie.Need-add-result
+add-result c =
+    let start = c .before .before .before .before .before in
+    omega (arith, room-left (start .args .end ∷ []) (c .before .before .write .ensures) (start .pre))
+
+same-length : tie.Need-same-length
+same-length c = search needs
 
 returns : tie.Need-returns
-returns c = added-twice (c .before .digits .ensures) (c .put .ensures)
+returns c =
+    let start = c .before .before .before .before .before in
+    writes-ended (start .args .end) (start .pre) (c .before .before .write .ensures)
 
 pub number-spec : {M : Type 1} → statement M
-number-spec = tie.close (tie.spec digits-requires put-requires returns)
+number-spec = tie.close (tie.spec write-requires slice-write-bytes add-result same-length returns)

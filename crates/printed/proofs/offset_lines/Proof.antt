@@ -1,68 +1,81 @@
--- `offset_lines` meets its contract. The invariant: the lines of the first i offsets are written behind the text that came in, at most
--- 11 bytes each. A turn writes one more line. The measure is what is left of the signals. Assumes nothing.
-use Prim.Native.Nat.{_-_, _*_, _≤_}
+-- `offset_lines` meets its contract. The invariant: with the lines of the offsets from i on still to be written, the list becomes what it
+-- is to become, and there is room for them. A turn writes the first of these lines. The measure is what is left of the offsets.
+-- Assumes nothing.
+use Prim.Native.Nat.{_+_, _-_, _≤_}
 use native.Mathlib.Omega.{arith}
-use mathlib.Core.Path.{_≡_, sym}
+use mathlib.Core.Path.{_≡_, refl, sym, ap, _∙_}
 use mathlib.Core.List.{[], _∷_, _++_}
-use lib.ListN.{length, take, getD}
+use lib.ListN.{length, drop, getD, length-append}
 use borrow.Author.Needs.{needs}
-use Rattle.sheet.specs.Decimal.{decimal}
+use Rattle.decimal.specs.Decimal.{decimal}
+use Rattle.decimal.specs.Writing.{overwritten, Writes}
+use Rattle.decimal.proofs.Writing.{overwritten-none, room-first, room-left, goes-on}
 use Rattle.printed.specs.Text.{offsetLines}
-use Rattle.printed.specs.Added.{Added}
-use Rattle.printed.proofs.Buffers.{added-none, added-twice, added-as}
-use Rattle.printed.proofs.Lines.{offsetLines-more}
+use Rattle.printed.proofs.Lines.{offset-line, no-offset-line}
 use Rattle.printed.proofs.offset_lines.Statement.{statement}
 use Rattle.printed.proofs.offset_lines.Tie as tie
 
 abbrev Inv-loop : tie.InvT-loop
-Inv-loop signals offsets lines₀ i₀ lines i = (i ≤ signals) × Added lines₀ (offsetLines (take i offsets)) (11 * i) lines
+Inv-loop bytes₀ at offsets next₀ i₀ i-end bytes next i =
+    (length bytes ≡ length bytes₀)
+    × (next + length (offsetLines (drop i offsets)) ≡ at + length (offsetLines offsets))
+    × (overwritten next (offsetLines (drop i offsets)) bytes ≡ overwritten at (offsetLines offsets) bytes₀)
 
 abbrev μ-loop : tie.MeasureT-loop
-μ-loop signals offsets lines₀ i₀ lines i = signals - i
+μ-loop bytes₀ at offsets next₀ i₀ i-end bytes next i = length offsets - i
 
--- there are 32 offsets, so one that the loop reads is there
-long : (c : tie.Start Inv-loop μ-loop) → length (c .args .t3) ≡ 32
-long c = search needs
+-- there is room for what is left to be written
+room-here :
+    (c : tie.At-loop Inv-loop μ-loop)
+    → c .loop .next + length (offsetLines (drop (c .loop .i) (c .before .before .before .args .offsets .now))) ≤ length (c .loop .bytes)
+room-here c = omega arith
 
 loop-holds : tie.Need-loop-holds Inv-loop μ-loop
-unfolding offsetLines
-loop-holds c =
-    let none : Added (c .args .p) (offsetLines (take 0 (c .args .t3))) (11 * 0) (c .args .p) = added-none (c .args .p) in
-    (omega arith, none)
+loop-holds c = (refl, refl, refl)
 
 mul-number : tie.Need-mul-number Inv-loop μ-loop
-mul-number c = omega arith
+mul-number c = search needs
 
-array-read-number : tie.Need-array-read-number Inv-loop μ-loop
-array-read-number c = omega arith
+shared-slice-read-number : tie.Need-shared-slice-read-number Inv-loop μ-loop
+shared-slice-read-number c = search needs
 
 number-requires : tie.Need-number-requires Inv-loop μ-loop
-number-requires c κs = omega arith
+number-requires c κs =
+    let at-loop = c .before .before .before in
+    let h = at-loop .loop in
+    let l = at-loop .before .before .before .args .offsets .now in
+    let parts = offset-line l (h .i) (omega arith) in
+    room-first (h .next) (length (h .bytes)) (decimal (getD l (h .i) 0) ++ 10 ∷ []) (offsetLines (drop (h .i + 1) l))
+    (rw parts at (room-here at-loop))
 
 add-i : tie.Need-add-i Inv-loop μ-loop
-add-i c = omega arith
+add-i c = search needs
 
 loop-less : tie.Need-loop-less Inv-loop μ-loop
-loop-less c = omega arith
+loop-less c = search needs
 
 loop-again : tie.Need-loop-again Inv-loop μ-loop
 loop-again c =
-    let start = c .before .before .before in
-    let h = c .before .before .loop in
-    let a = start .args in
-    let line : Added (h .lines) (decimal (getD (a .t3) (h .i) 0) ++ 10 ∷ []) 11 (c .number .result) = c .number .ensures in (
-      omega arith,
-      added-as
-          (sym (offsetLines-more (a .t3) (h .i) (omega (arith, long start))))
-          (omega arith)
-          (added-twice (h .inv .1) line),
+    let at-loop = c .before .before .before .before .before .before in
+    let h = at-loop .loop in
+    let l = at-loop .before .before .before .args .offsets .now in
+    let rest = offsetLines (drop (h .i + 1) l) in
+    let parts = offset-line l (h .i) (omega arith) in
+    let call = c .before .before .number in
+    let line : Writes (h .next) (decimal (getD l (h .i) 0) ++ 10 ∷ []) (h .bytes) (call .last .0) (call .result) = call .ensures in (
+      omega (arith, call .kept .0),
+      omega (arith, ap length parts, length-append (decimal (getD l (h .i) 0) ++ 10 ∷ []) rest),
+      goes-on rest line (omega (arith, room-here at-loop)) ∙ rw (← parts) (h .inv .2),
     )
+
+same-length : tie.Need-same-length Inv-loop μ-loop
+same-length c = search needs
 
 returns : tie.Need-returns Inv-loop μ-loop
 returns c =
     let h = c .before .loop in
-    let all : h .i ≡ c .before .before .args .signals = omega arith in
-    rw (sym all) (h .inv .1)
+    let none = no-offset-line (c .before .before .before .before .args .offsets .now) (h .i) (omega arith) in
+    record { after = sym (overwritten-none (h .next) (h .bytes)) ∙ (rw none at (h .inv .2)); next = omega (arith, ap length none) }
 
 pub offset-lines-spec : {M : Type 1} → statement M
 offset-lines-spec =
@@ -72,9 +85,10 @@ offset-lines-spec =
     μ-loop
     loop-holds
     mul-number
-    array-read-number
+    shared-slice-read-number
     number-requires
     add-i
     loop-less
     loop-again
+    same-length
     returns)

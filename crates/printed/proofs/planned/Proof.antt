@@ -1,15 +1,34 @@
--- `printed::planned` meets its contract: each part that is lent is within its array, and the text of the answer and the first entries is the plan's. Assumes nothing.
-use Prim.Native.Nat.{_-_}
-use mathlib.Core.Path.{refl, sym, ap, _∙_}
+-- `printed::planned` meets its contract: each part that is lent is within its array, and the text of the answer and the first entries is
+-- the plan's. Assumes nothing.
+use Prim.Native.Nat.{ℕ, _-_, _≤_}
 use native.Mathlib.Omega.{arith}
-use lib.ListN.{replicate, take, drop}
+use mathlib.Core.Path.{_≡_, refl, sym, ap, _∙_}
+use mathlib.Core.List.{List, _++_}
+use lib.ListN.{length, take, drop, replicate}
 use lib.Seq.{length-take-le}
 use borrow.Author.Needs.{needs}
-use Rattle.printed.specs.Text.{printedOf}
-use Rattle.printed.specs.Way.{listsOf}
-use Rattle.printed.proofs.Ways.{plan-text, lent-le}
+use Rattle.street.specs.Limits.{maxSignals}
+use Rattle.sheet.specs.declared.Sheet.{Sheet}
+use Rattle.printed.specs.Text.{textOf, printedOf}
+use Rattle.printed.specs.Way.{listsOf, Held}
+use Rattle.printed.proofs.Ways.{plan-text, lent-le, lent-few}
 use Rattle.printed.proofs.planned.Statement.{statement}
 use Rattle.printed.proofs.planned.Tie as tie
+
+-- as many entries of a sheet's array as there are signals, or links
+module _ (s : Sheet) (held : Held s) (l : List ℕ) (whole : length l ≡ maxSignals) where
+  for-signals : s .signals ≡ length (take (s .signals) l)
+  for-signals = sym (length-take-le (s .signals) l (omega arith))
+
+  for-links : s .signals - 1 ≡ length (take (s .signals - 1) l)
+  for-links = sym (length-take-le (s .signals - 1) l (omega arith))
+
+-- once the room is known: the function's entry, and that the room is at most 32
+abbrev entry : tie.After-lent → tie.Start
+entry c = c .before .before .before .before .before
+
+most : (c : tie.After-lent) → c .lent .result ≤ maxSignals
+most c = lent-le (entry c .args .room) (c .lent .result) (c .lent .ensures)
 
 sub-links : tie.Need-sub-links
 sub-links c = search needs
@@ -18,43 +37,66 @@ lent-requires : tie.Need-lent-requires
 lent-requires c κs = search needs
 
 array-share-prefix-reds : tie.Need-array-share-prefix-reds
-array-share-prefix-reds c = omega (arith, c .before .before .before .before .before .pre .few, c .before .before .before .before .before .pre .reds)
+array-share-prefix-reds c = search needs
 
 slice-aggregate-equal : tie.Need-slice-aggregate-equal
-slice-aggregate-equal c = sym (length-take-le (c .before .before .before .before .before .before .args .s .signals) (c .before .before .before .before .before .before .args .s .reds) (omega (arith, c .before .before .before .before .before .before .pre .few, c .before .before .before .before .before .before .pre .reds)))
+slice-aggregate-equal c =
+    let start = entry (c .before) in
+    for-signals (start .args .s) (start .pre) (start .args .s .reds) (start .pre .reds)
 
 array-share-prefix-distances : tie.Need-array-share-prefix-distances
-array-share-prefix-distances c = omega (arith, c .before .before .before .before .before .before .pre .few, c .before .before .before .before .before .before .pre .distances)
+array-share-prefix-distances c = search needs
 
 slice-aggregate-equal-2 : tie.Need-slice-aggregate-equal-2
-slice-aggregate-equal-2 c = sym (length-take-le (c .before .before .before .before .before .before .before .args .s .signals) (c .before .before .before .before .before .before .before .args .s .distances) (omega (arith, c .before .before .before .before .before .before .before .pre .few, c .before .before .before .before .before .before .before .pre .distances)))
+slice-aggregate-equal-2 c =
+    let start = entry (c .before .before) in
+    for-signals (start .args .s) (start .pre) (start .args .s .distances) (start .pre .distances)
 
 array-share-prefix-outbound : tie.Need-array-share-prefix-outbound
-array-share-prefix-outbound c = omega (arith, c .before .before .before .before .before .before .before .pre .few, c .before .before .before .before .before .before .before .pre .outbound)
+array-share-prefix-outbound c = search needs
 
 slice-aggregate-equal-3 : tie.Need-slice-aggregate-equal-3
-slice-aggregate-equal-3 c = sym (length-take-le (c .before .before .before .before .before .before .before .before .args .s .signals - 1) (c .before .before .before .before .before .before .before .before .args .s .outbound) (omega (arith, c .before .before .before .before .before .before .before .before .pre .few, c .before .before .before .before .before .before .before .before .pre .outbound)))
+slice-aggregate-equal-3 c =
+    let start = entry (c .before .before .before) in
+    for-links (start .args .s) (start .pre) (start .args .s .outbound) (start .pre .outbound)
 
 array-share-prefix-inbound : tie.Need-array-share-prefix-inbound
-array-share-prefix-inbound c = omega (arith, c .before .before .before .before .before .before .before .before .pre .few, c .before .before .before .before .before .before .before .before .pre .inbound)
+array-share-prefix-inbound c = search needs
 
 slice-aggregate-equal-4 : tie.Need-slice-aggregate-equal-4
-slice-aggregate-equal-4 c = sym (length-take-le (c .before .before .before .before .before .before .before .before .before .args .s .signals - 1) (c .before .before .before .before .before .before .before .before .before .args .s .inbound) (omega (arith, c .before .before .before .before .before .before .before .before .before .pre .few, c .before .before .before .before .before .before .before .before .before .pre .inbound)))
+slice-aggregate-equal-4 c =
+    let start = entry (c .before .before .before .before) in
+    for-links (start .args .s) (start .pre) (start .args .s .inbound) (start .pre .inbound)
 
 array-borrow-prefix-offsets : tie.Need-array-borrow-prefix-offsets
-array-borrow-prefix-offsets c = lent-le (c .before .before .before .before .before .before .before .before .before .args .room) _ (c .before .before .before .before .lent .ensures)
+array-borrow-prefix-offsets c = most (c .before .before .before .before)
 
 slice-aggregate-equal-5 : tie.Need-slice-aggregate-equal-5
-slice-aggregate-equal-5 c = sym (length-take-le (c .before .before .before .before .before .lent .result) (replicate 32 0) (lent-le (c .before .before .before .before .before .before .before .before .before .before .args .room) _ (c .before .before .before .before .before .lent .ensures)))
+slice-aggregate-equal-5 c =
+    let lent = c .before .before .before .before .before in
+    sym (length-take-le (lent .lent .result) (replicate maxSignals 0) (most lent))
 
 equal-requires : tie.Need-equal-requires
 equal-requires c κs = search needs
 
-text-requires : tie.Need-text-requires
-text-requires c κs = search needs
+answer-text-requires : tie.Need-answer-text-requires
+answer-text-requires c κs = search needs
 
 returns : tie.Need-returns
-returns c = c .text .ensures ∙ ap printedOf (plan-text (listsOf (c .before .before .before .before .before .before .before .before .before .before .before .before .before .args .s)) (c .before .before .before .before .before .before .before .before .before .before .before .before .before .args .room) (c .before .before .before .before .before .before .before .before .lent .result) (c .before .before .before .before .before .before .before .before .before .before .before .before .before .args .s .signals) (c .before .before .equal .result) (take (c .before .before .before .before .before .before .before .before .lent .result) (replicate 32 0)) (c .before .before .equal .last .1 .1 .1 .1 .1 .0) (drop (c .before .before .before .before .before .before .before .before .lent .result) (replicate 32 0)) (c .before .before .before .before .before .before .before .before .lent .ensures) (sym (length-take-le (c .before .before .before .before .before .before .before .before .before .before .before .before .before .args .s .signals) (c .before .before .before .before .before .before .before .before .before .before .before .before .before .args .s .reds) (omega (arith, c .before .before .before .before .before .before .before .before .before .before .before .before .before .pre .few, c .before .before .before .before .before .before .before .before .before .before .before .before .before .pre .reds)))) refl (c .before .before .equal .ensures))
+returns c =
+    let lent = c .before .before .before .before .before .before .before .before in
+    let start = entry lent in
+    let s = start .args .s in
+    let k = lent .lent .result in
+    let equal = c .before .before .equal in
+    let zeros : List ℕ = replicate maxSignals 0 in
+    let after = equal .last .1 .1 .1 .1 .1 .0 in
+    let rest = drop k zeros in
+    c .answer-text .ensures .reply
+    ∙ ap (λ (n : ℕ). printedOf (textOf (equal .result) (take n (after ++ rest)))) (lent-few (s .signals) (start .pre .few))
+    ∙ ap printedOf
+    (plan-text (listsOf s) (start .args .room) k (s .signals) (equal .result) (take k zeros) after rest (lent .lent .ensures)
+    (for-signals s (start .pre) (s .reds) (start .pre .reds)) refl (equal .ensures))
 
 pub planned-spec : {M : Type 1} → statement M
 planned-spec =
@@ -73,5 +115,5 @@ planned-spec =
     array-borrow-prefix-offsets
     slice-aggregate-equal-5
     equal-requires
-    text-requires
+    answer-text-requires
     returns)

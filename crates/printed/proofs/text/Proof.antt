@@ -1,51 +1,35 @@
--- `text` meets its contract. The buffer that it starts from is empty, so what the line functions write into it is its whole text: of a plan
--- the first line and then the offsets, of a refusal its one line. There is room for 56 bytes and for 32 lines of 11. Assumes nothing.
-use mathlib.Core.Path.{sym, ap, _∙_}
-use lib.ListN.{take}
+-- `text` meets its contract. The buffer starts as zeros and has room for every text, so what is written into it from the start is its
+-- whole text. Assumes nothing.
+use Prim.Native.Nat.{ℕ}
+use native.Mathlib.Nat.{zero-add}
+use mathlib.Core.Path.{_≡_, ap, _∙_}
+use mathlib.Core.List.{List, _++_}
+use lib.ListN.{length, drop, replicate}
 use borrow.Author.Needs.{needs}
-use Rattle.plans.specs.declared.Answer.{Answer}
-use Rattle.printed.specs.Text.{textOf, printedOf}
-use Rattle.printed.proofs.Buffers.{added-twice, added-empty}
+use Rattle.decimal.specs.Writing.{Writes}
+use Rattle.printed.specs.Text.{maxText, printedOf}
+use Rattle.printed.specs.declared.Printed.{Printed}
+use Rattle.printed.proofs.Sizes.{text-size}
 use Rattle.printed.proofs.text.Statement.{statement}
 use Rattle.printed.proofs.text.Tie as tie
 
-enum-known-answer : tie.Need-enum-known-answer
-enum-known-answer c = search needs
+whole : {t l : List ℕ} {n : ℕ} → Writes 0 t (replicate maxText 0) l n → _≡_ {A = Printed} record { bytes = l; count = n } (printedOf t)
+whole {t} w =
+    let start = zero-add (length t) in
+    let bytes = w .after ∙ ap (λ (k : ℕ). t ++ drop k (replicate maxText 0)) start in
+    let count = w .next ∙ start in
+    λ i. record { bytes = bytes i; count = count i }
 
-plan-line-requires : tie.Need-plan-line-requires
-plan-line-requires c κs = search needs
+slice-aggregate-answer-lines : tie.Need-slice-aggregate-answer-lines
+slice-aggregate-answer-lines c = search needs
 
-offset-lines-requires : tie.Need-offset-lines-requires
-offset-lines-requires c κs = search needs
-
-enum-known-answer-2 : tie.Need-enum-known-answer-2
-enum-known-answer-2 c = search needs
-
-refusal-line-requires : tie.Need-refusal-line-requires
-refusal-line-requires c κs = search needs
+answer-lines-requires : tie.Need-answer-lines-requires
+answer-lines-requires c κs =
+    let start = c .before .before in
+    text-size (start .args .answer) (start .args .offsets .now) (start .pre) (λ i. c .before .shared-slice-known .given i .fits)
 
 returns : tie.Need-returns
-returns c =
-    let at-answer = c .before .before .before in
-    let a = at-answer .before .before .args in
-    added-empty (added-twice (c .before .plan-line .ensures) (c .offset-lines .ensures))
-    ∙ ap (λ (x : Answer). printedOf (textOf x (take (a .signals) (a .offsets)))) (sym (at-answer .answer .given .1))
-
-returns-2 : tie.Need-returns-2
-returns-2 c =
-    let at-answer = c .before .before in
-    let a = at-answer .before .before .args in
-    added-empty (c .refusal-line .ensures)
-    ∙ ap (λ (x : Answer). printedOf (textOf x (take (a .signals) (a .offsets)))) (sym (at-answer .answer2 .given .1))
+returns c = whole (c .before .answer-lines .ensures)
 
 pub text-spec : {M : Type 1} → statement M
-text-spec =
-    tie.close
-    (tie.spec
-    enum-known-answer
-    plan-line-requires
-    offset-lines-requires
-    enum-known-answer-2
-    refusal-line-requires
-    returns
-    returns-2)
+text-spec = tie.close (tie.spec slice-aggregate-answer-lines answer-lines-requires returns)

@@ -14,8 +14,7 @@ use mir.Syntax.{w32, w64}
 use mir.Val.{Fits, SFits, toZ, ofZ}
 use mir.ValLaws.{toZ-ofZ}
 use borrow.Author.Tests.{ltb-true}
-use Rattle.sheet.specs.Decimal.{decimal}
-use Rattle.printed.specs.Text.{signedDecimal}
+use Rattle.decimal.specs.Decimal.{decimal, signedDecimal}
 
 -- a number of 32 bits is one of 64 bits
 widens : (z : ℤ) → SFits w32 z → SFits w64 z
