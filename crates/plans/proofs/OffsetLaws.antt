@@ -101,7 +101,8 @@ lowering-is s fit raised j x (Outbound w) is e = omega (arith, outbound-lowering
 lowering-is s fit raised j x (Inbound w) is e = omega (arith, inbound-lowering s fit w j)
 
 -- one remainder goes round the cycle for the offset and its lowering
-moved-man : (s : Timed) (c j p down : ℕ) (shift : Shift) → 0 < halves s → c ≡ reference s → p ≡ phase s c j → down ≡ lowering shift s j → man (halves s) (pos (s .outbound j + s .inbound c + p) -ℤ pos (s .outbound c + s .inbound j + down)) ≡ movedOffset shift s j
+moved-man : (s : Timed) (c j p down : ℕ) (shift : Shift) → 0 < halves s → c ≡ reference s → p ≡ phase s c j → down ≡ lowering shift s j →
+    man (halves s) (pos (s .outbound j + s .inbound c + p) -ℤ pos (s .outbound c + s .inbound j + down)) ≡ movedOffset shift s j
 unfolding lowered offset
 moved-man s c j p down shift h found ep ed =
     let ahead = s .outbound j + s .inbound c + p in
@@ -114,7 +115,9 @@ moved-man s c j p down shift h found ep ed =
     (record { p = moved .p + equal .q; q = moved .q + equal .p; eq = omega (arith, moved .eq, equal .eq, ep) }))
 
 -- an offset from the better phase and the lowering, as the code joins them to the two sides
-pub offset-parts : (cycle raised : ℕ) (shift : Shift) (from to red ahead behind : ℕ) (better : Choice) (down r : ℕ) → better ≡ choiceOf cycle from to red → down ≡ loweringOf shift raised red (better .u) → r ≡ man (2 * cycle) (pos (ahead + better .phase) -ℤ pos (behind + down)) → r ≡ offsetAt cycle raised shift from to red ahead behind
+pub offset-parts : (cycle raised : ℕ) (shift : Shift) (from to red ahead behind : ℕ) (better : Choice) (down r : ℕ) → better ≡ choiceOf cycle from to red →
+    down ≡ loweringOf shift raised red (better .u) →
+    r ≡ man (2 * cycle) (pos (ahead + better .phase) -ℤ pos (behind + down)) → r ≡ offsetAt cycle raised shift from to red ahead behind
 offset-parts cycle raised shift from to red ahead behind better down r found lowers e =
     e
     ∙ ap₂ (λ (x y : ℕ). man (2 * cycle) (pos (ahead + x) -ℤ pos (behind + y)))
@@ -122,7 +125,9 @@ offset-parts cycle raised shift from to red ahead behind better down r found low
     (lowers ∙ ap (λ x. loweringOf shift raised red (x .u)) found)
 
 -- what the code works out for a signal of a street is the signal's offset
-pub offset-at-is : (s : Street) (x : List ℕ) (c raised j r : ℕ) (shift : Shift) → Ready s x c raised → j < s .road .signals → r ≡ offsetAt (s .cycle) raised shift (getD x c 0) (getD x j 0) (getD (s .reds) j 0) (getD (s .road .outbound) j 0 + getD (s .road .inbound) c 0) (getD (s .road .outbound) c 0 + getD (s .road .inbound) j 0) → r ≡ movedOffset shift (timedStreet s) j
+pub offset-at-is : (s : Street) (x : List ℕ) (c raised j r : ℕ) (shift : Shift) → Ready s x c raised → j < s .road .signals →
+    r ≡ offsetAt (s .cycle) raised shift (getD x c 0) (getD x j 0) (getD (s .reds) j 0)
+    (getD (s .road .outbound) j 0 + getD (s .road .inbound) c 0) (getD (s .road .outbound) c 0 + getD (s .road .inbound) j 0) → r ≡ movedOffset shift (timedStreet s) j
 unfolding chosen
 offset-at-is s x c raised j r shift ok l e =
     let z = timedStreet s in
@@ -138,7 +143,8 @@ offset-at-is s x c raised j r shift ok l e =
     (lowering-is z fit raised j (better .u) shift (raised-is s raised (ok .base)) own)
 
 -- the reference's own offset, as it stands in a list that was written
-pub own-written : (s : Street) (x : List ℕ) (c raised : ℕ) (shift : Shift) (before after : List ℕ) → Ready s x c raised → after ≡ listBelow (s .road .signals) (movedOffset shift (timedStreet s)) ++ drop (s .road .signals) before → getD after c 0 ≡ movedOffset shift (timedStreet s) (reference (timedStreet s))
+pub own-written : (s : Street) (x : List ℕ) (c raised : ℕ) (shift : Shift) (before after : List ℕ) → Ready s x c raised →
+    after ≡ listBelow (s .road .signals) (movedOffset shift (timedStreet s)) ++ drop (s .road .signals) before → getD after c 0 ≡ movedOffset shift (timedStreet s) (reference (timedStreet s))
 own-written s x c raised shift before after ok wrote =
     let z = timedStreet s in
     ap (λ xs. getD xs c 0) wrote

@@ -16,7 +16,7 @@ use Rattle.circle.proofs.Over.{list-ext, length-listBelow}
 use Rattle.circle.proofs.Method.{Agree, B-agree, reference-agree, equalWidth-agree, redEnd-agree, redStart-agree, reference-lt}
 use Rattle.circle.proofs.Platoons.{platoon-le}
 use Rattle.circle.proofs.AgreeMoved.{inRange-agree, otherWidth-agree, platoonWidth-agree, outboundLowering-agree, inboundLowering-agree, lowered-agree}
-use Rattle.street.specs.Limits.{maxPlatoon}
+use Rattle.street.specs.Limits.{maxHalves, maxPlatoon}
 use Rattle.street.specs.Lists.{Lists, signals}
 use Rattle.street.specs.Checks.{refuse, unless, orNext, firstFault, planChecks}
 use Rattle.street.specs.Times.{timed, m}
@@ -78,7 +78,7 @@ platoon-shift-le s P Q = go (eqb P Q) (ltb Q P)
     go false true = platoon-le s P (P + Q)
     go false false = platoon-le s Q (P + Q)
 
-pub shift-small : (s : Street) (asked : Request) → Sound s → requestCheck asked (timedStreet s) ≡ verdict.Passed → shiftWidth (shiftOf asked (timedStreet s)) ≤ 12000
+pub shift-small : (s : Street) (asked : Request) → Sound s → requestCheck asked (timedStreet s) ≡ verdict.Passed → shiftWidth (shiftOf asked (timedStreet s)) ≤ maxHalves
 shift-small s request.Equal ok e = omega arith
 shift-small s (request.Outbound w) ok e =
     let fit = fit-sound s ok in omega (arith, range-le (timedStreet s) w fit e, widest-le (timedStreet s) fit, ok .longest)

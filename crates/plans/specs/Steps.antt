@@ -10,7 +10,7 @@ use Rattle.circle.specs.Man.{man}
 use Rattle.circle.specs.Method.{Timed, B, reference}
 use Rattle.street.specs.Streets.{timedStreet, Sound}
 use Rattle.street.specs.declared.Street.{Street}
-use Rattle.search.specs.Search.{lowered, Reduced, pairOf}
+use Rattle.search.specs.Search.{signedOf, Reduced, pairOf}
 use Rattle.plans.specs.Moved.{outboundWidth, inboundWidth}
 use Rattle.plans.specs.declared.offsets.Choice.{Choice}
 use Rattle.plans.specs.declared.widths.Shift.{Shift}
@@ -20,7 +20,7 @@ use Rattle.plans.specs.declared.widths.Widths.{Widths}
 -- B of a sound street, raised by H; B is at most H
 pub record Raised (s : Street) (raised : ℕ) : Type 0 where
   pub sound : Sound s
-  pub width : lowered (timedStreet s) raised ≡ B (timedStreet s)
+  pub width : signedOf (timedStreet s) raised ≡ B (timedStreet s)
   pub small : raised ≤ 4 * s .cycle
 
 -- what a plan is made from: a sound street, its signals' places on the cycle, its reference and its B

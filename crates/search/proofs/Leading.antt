@@ -14,12 +14,13 @@ use Rattle.circle.proofs.Over.{minBelow, maxBelow, max-more, max-ge, least-rais
 use Rattle.circle.proofs.Raised.{Fit, larger-raised, b⁺, b⁺-le, top, B-raised, reference-is}
 use Rattle.street.specs.Streets.{timedStreet, Sound}
 use Rattle.street.specs.declared.Street.{Street}
-use Rattle.search.specs.Search.{lowered, Row, wider, Reduced, Turning, Searched}
+use Rattle.search.specs.Search.{signedOf, Row, wider, Reduced, Turning, Searched}
 use Rattle.search.proofs.Pairs.{Pair, pair-widths, place-lt}
 
 module _ (s : Timed) (fit : Fit s) where
   -- the least of a row of pairs is its candidate's b(i)
-  least-is : (i : ℕ) (row : List (List ℕ)) (r : ℕ) → ((j : ℕ) → j < s .signals → Pair s i j (getD row j [])) → pos r ≡ leastBelow (s .signals) (λ j. pos (wider row j)) → r ≡ b⁺ s i
+  least-is : (i : ℕ) (row : List (List ℕ)) (r : ℕ) → ((j : ℕ) → j < s .signals → Pair s i j (getD row j [])) →
+      pos r ≡ leastBelow (s .signals) (λ j. pos (wider row j)) → r ≡ b⁺ s i
   unfolding b⁺
   least-is i row r ok e =
       sub-injective r (minBelow (4 * s .cycle) (s .signals) (larger-raised s i)) 0
@@ -28,7 +29,7 @@ module _ (s : Timed) (fit : Fit s) where
       ∙ least-raised 0 (4 * s .cycle) (s .signals) (λ j. pos (wider row j)) (larger-raised s i) (fit .some) (top s fit i)
       (λ j l. ap₂ (λ (x y : ℕ). pos (max x y)) (ok j l .even) (ok j l .odd) ∙ pos-sub (larger-raised s i j)))
 
-  pub B-is : (r : ℕ) → r ≡ maxBelow (s .signals) (b⁺ s) → lowered s r ≡ B s
+  pub B-is : (r : ℕ) → r ≡ maxBelow (s .signals) (b⁺ s) → signedOf s r ≡ B s
   B-is r e = pos-minus r (halves s) ∙ ap (λ (x : ℕ). subℕ x (halves s)) e ∙ sym (B-raised s fit)
 
 -- after k candidates: the first of them with the greatest number, and that number
@@ -64,7 +65,8 @@ leads-still g k signal most x lead l e =
     }
 
 -- a property of a row of the table of widths, once the row i is another
-pub row-set : (P : ℕ → List (List ℕ) → Type 0) (widths : List (List (List ℕ))) (i : ℕ) (row : List (List ℕ)) (q : ℕ) → i < length widths → P i row → ((q ≡ i → ⊥) → P q (getD widths q [])) → P q (getD (set widths i row) q [])
+pub row-set : (P : ℕ → List (List ℕ) → Type 0) (widths : List (List (List ℕ))) (i : ℕ) (row : List (List ℕ)) (q : ℕ) →
+    i < length widths → P i row → ((q ≡ i → ⊥) → P q (getD widths q [])) → P q (getD (set widths i row) q [])
 row-set P widths i row q l here other = go (ℕ-discrete q i)
   where
     go : Dec (q ≡ i) → P q (getD (set widths i row) q [])
@@ -81,7 +83,8 @@ turning s x ok places =
     record { goes = ok .goes; on = λ k l. place-lt (timedStreet s) x k places l (omega (arith, ok .shortest)) }
 
 -- and the least of its row is a candidate's b(i)
-pub candidate-is : (s : Street) (x : List ℕ) (i : ℕ) (row : List (List ℕ)) (r : ℕ) → Sound s → Reduced (timedStreet s) x → i < s .road .signals → Row (s .cycle) (s .road .signals) (s .reds) x i row → pos r ≡ leastBelow (s .road .signals) (λ j. pos (wider row j)) → r ≡ b⁺ (timedStreet s) i
+pub candidate-is : (s : Street) (x : List ℕ) (i : ℕ) (row : List (List ℕ)) (r : ℕ) → Sound s → Reduced (timedStreet s) x → i < s .road .signals →
+    Row (s .cycle) (s .road .signals) (s .reds) x i row → pos r ≡ leastBelow (s .road .signals) (λ j. pos (wider row j)) → r ≡ b⁺ (timedStreet s) i
 candidate-is s x i row r ok places l filled e =
     let turns : 0 < s .cycle = omega (arith, ok .shortest) in
     least-is (timedStreet s) (fit-sound s ok) i row r

@@ -14,7 +14,8 @@ use Rattle.circle.proofs.Raised.{raised}
 use Rattle.search.specs.Search.{place, pairOf, Reduced}
 
 -- a pair's two numbers, from the two remainders that the code takes one after the other
-pub pair-is : (cycle from to red even odd : ℕ) → 1 ≤ cycle → even ≡ man (2 * cycle) (pos from -ℤ pos to) → odd ≡ man (2 * cycle) (pos even -ℤ pos cycle) → (2 * (2 * cycle) - even - 2 * red) ∷ (2 * (2 * cycle) - odd - 2 * red) ∷ [] ≡ pairOf cycle from to red
+pub pair-is : (cycle from to red even odd : ℕ) → 1 ≤ cycle → even ≡ man (2 * cycle) (pos from -ℤ pos to) → odd ≡ man (2 * cycle) (pos even -ℤ pos cycle) →
+    (2 * (2 * cycle) - even - 2 * red) ∷ (2 * (2 * cycle) - odd - 2 * red) ∷ [] ≡ pairOf cycle from to red
 pair-is cycle from to red even odd some e o =
     let h : 0 < 2 * cycle = omega arith in
     let twice : 2 * (2 * cycle) ≡ 4 * cycle = omega arith in
@@ -30,7 +31,8 @@ pub record Pair (s : Timed) (i j : ℕ) (w : List ℕ) : Type 0 where
   pub odd : getD w 1 0 ≡ raised s i j (s .cycle)
 
 -- one of them from places on the cycle
-raised-pair : (s : Timed) (i j e x y : ℕ) → 0 < s .cycle → s .red j < s .cycle → x ≡ place s i → y ≡ place s j → 4 * s .cycle - man (halves s) (pos x -ℤ pos y -ℤ pos e) - 2 * s .red j ≡ raised s i j e
+raised-pair : (s : Timed) (i j e x y : ℕ) → 0 < s .cycle → s .red j < s .cycle → x ≡ place s i → y ≡ place s j →
+    4 * s .cycle - man (halves s) (pos x -ℤ pos y -ℤ pos e) - 2 * s .red j ≡ raised s i j e
 raised-pair s i j e x y h red ex ey =
     let some : 0 < 2 * s .cycle = omega arith in
     omega (arith, man-lt (halves s) (pos x -ℤ pos y -ℤ pos e) some, u-reduced s i j e x y h ex ey)

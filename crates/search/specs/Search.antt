@@ -10,8 +10,8 @@ use Rattle.circle.specs.Method.{Timed, halves, B, reference}
 use Rattle.search.specs.declared.Candidate.{Candidate}
 
 -- a raised number as the signed number that it stands for
-abbrev pub lowered : Timed → ℕ → ℤ
-lowered s x = pos x -ℤ pos (halves s)
+abbrev pub signedOf : Timed → ℕ → ℤ
+signedOf s x = pos x -ℤ pos (halves s)
 
 -- a signal's place on the cycle: its red less its two sums, reduced once
 abbrev pub place : Timed → ℕ → ℕ
@@ -44,5 +44,5 @@ wider row j = max (getD (getD row j []) 0 0) (getD (getD row j []) 1 0)
 -- what the search answers: the reference, and B raised
 pub record Searched (s : Timed) (r : Candidate) : Type 0 where
   pub found : r .signal ≡ reference s
-  pub width : lowered s (r .raised) ≡ B s
+  pub width : signedOf s (r .raised) ≡ B s
   pub small : r .raised ≤ 4 * s .cycle

@@ -31,7 +31,10 @@ B-read : (c : tie.After-signed) → toZ w32 (ofZ w32 (c .signed .result)) ≡ B 
 B-read c =
     let c0 = c .before .before .before in
     let base = c0 .pre .0 in
-    reread (c .signed .result) (c0 .args .raised) (2 * c0 .args .t1 .cycle) (omega (arith, base .small, base .sound .longest)) (omega (arith, base .sound .longest)) (c .signed .ensures) ∙ c .signed .ensures ∙ base .width
+    let h = 2 * c0 .args .t1 .cycle in
+    reread (c .signed .result) (c0 .args .raised) h (omega (arith, base .small, base .sound .longest)) (omega (arith, base .sound .longest)) (c .signed .ensures)
+    ∙ c .signed .ensures
+    ∙ base .width
 
 mul-h : tie.Need-mul-h
 mul-h c = search needs
@@ -70,7 +73,16 @@ returns c =
     let same = c0 .pre .1 in
     let own = c0 .pre .3 in
     let w = c .before .before .before .reported .ensures in
-    λ i. record { reference = same i + 1; b = B-read (c .before .before) i; outbound = w i .outbound; inbound = w i .inbound; rounded = c0 .args .t1 .road .rounded; starts = (c .before .remainder .ensures ∙ red-end-man s (c0 .args .c) (c0 .args .f) ∙ ap₂ (redEnd s) same own) i; ends = (c .remainder2 .ensures ∙ red-start-man s (c0 .args .c) (c0 .args .f) ∙ ap₂ (redStart s) same own) i }
+    λ i.
+    record {
+      reference = same i + 1;
+      b = B-read (c .before .before) i;
+      outbound = w i .outbound;
+      inbound = w i .inbound;
+      rounded = c0 .args .t1 .road .rounded;
+      starts = (c .before .remainder .ensures ∙ red-end-man s (c0 .args .c) (c0 .args .f) ∙ ap₂ (redEnd s) same own) i;
+      ends = (c .remainder2 .ensures ∙ red-start-man s (c0 .args .c) (c0 .args .f) ∙ ap₂ (redStart s) same own) i;
+    }
 
 pub numbers-spec : {M : Type 1} → statement M
 numbers-spec =

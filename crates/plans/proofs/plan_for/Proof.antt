@@ -5,7 +5,7 @@ use Prim.Native.Nat.{ℕ, _≤_, _<_}
 use mathlib.Core.List.{List}
 use native.Mathlib.Omega.{arith}
 use lib.ListN.{length}
-use Rattle.street.specs.Limits.{maxSignals}
+use Rattle.street.specs.Limits.{maxSignals, maxHalves}
 use Rattle.street.specs.Lists.{Lists, typed}
 use Rattle.street.specs.Checks.{planChecks}
 use Rattle.street.specs.Streets.{streetOf, timedStreet, Sound}
@@ -68,10 +68,10 @@ out c = c .before .before .before .before .before
 asked-passed : (c : tie.After-enum-told2) → requestCheck (entry (out c) .args .request) (timedStreet (survey (out c) .street)) ≡ Passed
 asked-passed c = sym (c .before .before .check .ensures) ∙ c .enum-told2 .given .1
 
-narrow : (c : tie.After-settle) → shiftWidth (c .settle .result) ≤ 12000
+narrow : (c : tie.After-settle) → shiftWidth (c .settle .result) ≤ maxHalves
 narrow c =
     let s = out (c .before) in
-    subst (λ x. shiftWidth x ≤ 12000) (sym (c .settle .ensures))
+    subst (λ x. shiftWidth x ≤ maxHalves) (sym (c .settle .ensures))
     (shift-small (survey s .street) (entry s .args .request) (street-sound s) (asked-passed (c .before)))
 
 new-requires : tie.Need-new-requires

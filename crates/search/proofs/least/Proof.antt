@@ -72,7 +72,8 @@ loop-again c =
     let loop = c .before .before .before .before .before .loop in
     let pairs = c .before .before .before .before .before .before .before .before .before .args .pairs .now in
     let here = c .before .larger2 in
-    (omega arith, omega arith, ap pos (c .smaller .ensures) ∙ pos-min (loop .low) (here .result) ∙ ap₂ minℤ (loop .inv .2) (ap pos (here .ensures)) ∙ sym (least-more (loop .j) (λ q. pos (wider pairs q)) (loop .inv .0)))
+    let value = ap pos (c .smaller .ensures) ∙ pos-min (loop .low) (here .result) ∙ ap₂ minℤ (loop .inv .2) (ap pos (here .ensures)) in
+    (omega arith, omega arith, value ∙ sym (least-more (loop .j) (λ q. pos (wider pairs q)) (loop .inv .0)))
 
 returns : tie.Need-returns Inv-loop μ-loop
 returns c =

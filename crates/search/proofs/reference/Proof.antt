@@ -17,7 +17,9 @@ use Rattle.search.proofs.reference.Statement.{statement}
 use Rattle.search.proofs.reference.Tie as tie
 
 abbrev Inv-loop : tie.InvT-loop
-Inv-loop s x n cycle reds widths₀ i₀ widths i = (i ≤ s .road .signals) × (length widths ≡ maxSignals) × ((q : ℕ) → q < maxSignals → length (getD widths q []) ≡ maxSignals) × ((q : ℕ) → q < i → Row (s .cycle) (s .road .signals) (s .reds) x q (getD widths q []))
+Inv-loop s x n cycle reds widths₀ i₀ widths i =
+    (i ≤ s .road .signals) × (length widths ≡ maxSignals) × ((q : ℕ) → q < maxSignals → length (getD widths q []) ≡ maxSignals)
+    × ((q : ℕ) → q < i → Row (s .cycle) (s .road .signals) (s .reds) x q (getD widths q []))
 
 abbrev μ-loop : tie.MeasureT-loop
 μ-loop s x n cycle reds widths₀ i₀ widths i = s .road .signals - i
@@ -105,16 +107,18 @@ loop2-again c =
     let s = c0 .args .s in
     let g = b⁺ (timedStreet s) in
     let k = loop .k in
-    let here = candidate-is s (c0 .args .t2) k (getD (rows .widths) k []) (c .before .least2 .result) (c0 .pre .0) (c0 .pre .1) (omega arith) (rows .inv .3 k (omega arith)) (c .before .least2 .ensures) in (
+    let least = c .before .least2 in
+    let here =
+    candidate-is s (c0 .args .t2) k (getD (rows .widths) k []) (least .result) (c0 .pre .0) (c0 .pre .1) (omega arith) (rows .inv .3 k (omega arith)) (least .ensures) in (
       omega arith,
       omega arith,
       ⊎-elim
           (λ w.
           subst₂ (Leading g (k + 1)) (sym (w .1)) (sym (w .2))
-          (leads-new g k (loop .signal) (loop .raised) (c .before .least2 .result) (loop .inv .2) (w .0 .taken) here))
+          (leads-new g k (loop .signal) (loop .raised) (least .result) (loop .inv .2) (w .0 .taken) here))
           (λ w.
           subst₂ (Leading g (k + 1)) (sym (w .1)) (sym (w .2))
-          (leads-still g k (loop .signal) (loop .raised) (c .before .least2 .result) (loop .inv .2) (w .0 .left) here))
+          (leads-still g k (loop .signal) (loop .raised) (least .result) (loop .inv .2) (w .0 .left) here))
           (c .if2 .came),
     )
 

@@ -44,7 +44,8 @@ returns c =
     let a = c .before .before .before .before .args in
     let found = c .before .before .before .better-phase in
     let lowers = c .before .before .lowered-by in
-    offset-parts (a .cycle) (a .raised) (a .shift) (a .from) (a .to) (a .red) (a .ahead) (a .behind) (found .result) (lowers .result) (c .remainder .result) (found .ensures) (lowers .ensures) (c .remainder .ensures)
+    offset-parts (a .cycle) (a .raised) (a .shift) (a .from) (a .to) (a .red) (a .ahead) (a .behind) (found .result) (lowers .result) (c .remainder .result)
+    (found .ensures) (lowers .ensures) (c .remainder .ensures)
 
 pub offset-at-spec : {M : Type 1} → statement M
 offset-at-spec =

@@ -16,7 +16,8 @@ use Rattle.plans.proofs.offsets.write.Statement.{statement}
 use Rattle.plans.proofs.offsets.write.Tie as tie
 
 abbrev Inv-loop : tie.InvT-loop
-Inv-loop c raised shift offsets₀ s x road n cycle from out back j₀ offsets j = (j ≤ s .road .signals) × (length offsets ≡ length offsets₀) × (offsets ≡ listBelow j (movedOffset shift (timedStreet s)) ++ drop j offsets₀)
+Inv-loop c raised shift offsets₀ s x road n cycle from out back j₀ offsets j =
+    (j ≤ s .road .signals) × (length offsets ≡ length offsets₀) × (offsets ≡ listBelow j (movedOffset shift (timedStreet s)) ++ drop j offsets₀)
 
 abbrev μ-loop : tie.MeasureT-loop
 μ-loop c raised shift offsets₀ s x road n cycle from out back j₀ offsets j = s .road .signals - j
@@ -111,7 +112,8 @@ loop-again c =
     let c0 = c .before .before .before .before .before .before .before .before .before .before in
     let at = c .before .before .before .before .before .loop in
     let is = offset-at-is (c0 .args .t1) (c0 .args .t2) (c0 .args .c) (c0 .args .raised) (at .j) (c .offset-at .result) (c0 .args .shift) (c0 .pre .0) (omega arith) (c .offset-at .ensures) in
-    (omega arith, simp length-set (at .inv .1), fill-store (c0 .args .offsets .now) (at .offsets) (movedOffset (c0 .args .shift) (timedStreet (c0 .args .t1))) (at .j) (c .offset-at .result) 0 (omega (arith, c0 .pre .2)) (at .inv .2) is)
+    let store = fill-store (c0 .args .offsets .now) (at .offsets) (movedOffset (c0 .args .shift) (timedStreet (c0 .args .t1))) (at .j) (c .offset-at .result) 0 in
+    (omega arith, simp length-set (at .inv .1), store (omega (arith, c0 .pre .2)) (at .inv .2) is)
 
 same-length : tie.Need-same-length Inv-loop μ-loop
 same-length c = search needs

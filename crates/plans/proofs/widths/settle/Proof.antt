@@ -23,7 +23,8 @@ enum-known-request-3 c = search needs
 favoured-requires : tie.Need-favoured-requires
 favoured-requires c κs =
     let c0 = c .before .before .before in
-    let short = platoons-short (c .before .request3 .given .0 .0) (c .before .request3 .given .0 .1 .0) (sym (ap (λ x. requestCheck x (timedStreet (c0 .args .s))) (c .before .request3 .given .1)) ∙ c0 .pre .1) in
+    let told = c .before .request3 .given in
+    let short = platoons-short (told .0 .0) (told .0 .1 .0) (sym (ap (λ x. requestCheck x (timedStreet (c0 .args .s))) (told .1)) ∙ c0 .pre .1) in
     (c0 .pre .0, short .0, short .1)
 
 returns : tie.Need-returns
