@@ -7,8 +7,8 @@ use bands::Measurement;
 use plans::Answer;
 use plans::Request;
 use printed::Printed;
-use requests::Asked;
 use requests::Call;
+use requests::Line;
 use sheet::Sheet;
 use street::Refusal;
 use street::Street;
@@ -56,7 +56,7 @@ fn show_band(band: Band, end: &[u8]) {
 }
 
 // The measure of some offsets on a sheet's street.
-fn measured(s: Sheet, count: usize, offsets: [u32; Asked::MAX_ENTRIES])
+fn measured(s: Sheet, count: usize, offsets: [u32; Line::MAX_ENTRIES])
     requires { ⌜ Held s × (count ≤ maxEntries) × (length offsets ≡ maxEntries) ⌝ }
 {
     let n = s.signals;
@@ -109,8 +109,8 @@ fn planned(s: Sheet, request: Request, room: usize)
 }
 
 // What is asked of a sheet's numbers, a plan or else a measure, or the reader's refusal.
-fn on_sheet(bytes: &[u8], call: Call, room: usize, count: usize, numbers: [u32; Asked::MAX_ENTRIES])
-    requires { ⌜ (count ≤ maxEntries) × (length numbers ≡ maxEntries) ⌝ }
+fn on_sheet(bytes: &[u8], call: Call, line: Line)
+    requires { ⌜ (line .count ≤ maxEntries) × (length (line .numbers) ≡ maxEntries) ⌝ }
 {
     let reading = sheet::read(bytes);
     let verdict = reading.verdict;
@@ -118,10 +118,11 @@ fn on_sheet(bytes: &[u8], call: Call, room: usize, count: usize, numbers: [u32; 
         Verdict::Refused(f) => show_refusal(f),
         Verdict::Passed => {
             let s = reading.sheet;
+            let numbers = line.numbers;
             if let Call::Plan(request) = call {
-                planned(s, request, room);
+                planned(s, request, line.room);
             } else {
-                measured(s, count, numbers);
+                measured(s, line.count, numbers);
             }
         }
     }
@@ -131,12 +132,12 @@ fn on_sheet(bytes: &[u8], call: Call, room: usize, count: usize, numbers: [u32; 
 fn reply(case: &[u8]) {
     let asked = requests::request(case);
     let call = asked.call;
-    let at = asked.at;
-    let numbers = asked.numbers;
+    let line = asked.line;
+    let at = line.at;
     if let Call::Bad = call {
         put(b"bad request\n");
     } else {
-        on_sheet(&case[at..], call, asked.room, asked.count, numbers);
+        on_sheet(&case[at..], call, line);
     }
     put(b"\n");
 }

@@ -13,24 +13,31 @@ pub enum Call {
     Measure,
 }
 
-// What a request line asks for, and where the sheet starts. Of the numbers the first `count` are the line's.
-pub struct Asked {
-    pub call: Call,
+// A request line from its word on: whether it is formed as it should be, how many entries are lent, its numbers, of which the first
+// `count` are the line's, and where the sheet starts.
+pub struct Line {
+    pub good: bool,
     pub room: usize,
     pub count: usize,
-    pub numbers: [u32; Asked::MAX_ENTRIES],
+    pub numbers: [u32; Line::MAX_ENTRIES],
     pub at: usize,
 }
 
-impl Asked {
+impl Line {
     // The longest lent list that a line may name, and the most of its numbers that are kept.
     pub const MAX_ENTRIES: usize = 64;
+}
+
+// A line, and what it asks for.
+pub struct Asked {
+    pub call: Call,
+    pub line: Line,
 }
 
 // Numbers, each after one space: how many they are, and where they end. Those past the most that are kept are passed over.
 struct Listed {
     count: usize,
-    numbers: [u32; Asked::MAX_ENTRIES],
+    numbers: [u32; Line::MAX_ENTRIES],
     at: usize,
 }
 
@@ -104,7 +111,7 @@ fn numbers(bytes: &[u8], from: usize) -> Listed
     requires { ⌜ from ≤ length (now bytes) ⌝ }
     ensures { λ r. ⌜ (r .at ≤ length (now (bytes .entry))) × (r .count ≤ maxEntries) × (length (r .numbers) ≡ maxEntries) ⌝ }
 {
-    let mut list = [0u32; Asked::MAX_ENTRIES];
+    let mut list = [0u32; Line::MAX_ENTRIES];
     let mut count: usize = 0;
     let mut at = from;
     while at < bytes.len() {
@@ -115,7 +122,7 @@ fn numbers(bytes: &[u8], from: usize) -> Listed
         if !number.good {
             break;
         }
-        if count < Asked::MAX_ENTRIES {
+        if count < Line::MAX_ENTRIES {
             list[count] = number.value;
             count += 1;
         }
@@ -163,7 +170,7 @@ fn line_end(bytes: &[u8], from: usize, lends: bool) -> Ending
         return no_ending();
     }
     let room = number.value as usize;
-    if room > Asked::MAX_ENTRIES {
+    if room > Line::MAX_ENTRIES {
         return no_ending();
     }
     let end = past(bytes, number.at, b"\n");
@@ -174,16 +181,7 @@ fn line_end(bytes: &[u8], from: usize, lends: bool) -> Ending
     }
 }
 
-// A line from its word on: whether it is formed as it should be, its numbers and its end.
-struct Line {
-    good: bool,
-    room: usize,
-    count: usize,
-    numbers: [u32; Asked::MAX_ENTRIES],
-    at: usize,
-}
-
-// The rest of a line with so many numbers.
+// A line with so many numbers.
 fn line_from(bytes: &[u8], from: usize, least: usize, most: usize, lends: bool) -> Line
     requires { ⌜ from ≤ length (now bytes) ⌝ }
     ensures { λ r. ⌜ (r .at ≤ length (now (bytes .entry))) × (r .count ≤ maxEntries) × (length (r .numbers) ≡ maxEntries) ⌝ }
@@ -201,30 +199,22 @@ fn line_from(bytes: &[u8], from: usize, least: usize, most: usize, lends: bool) 
     }
 }
 
-fn served(call: Call, good: bool) -> Call {
-    if good {
-        return call;
-    }
-    Call::Bad
-}
-
-// What a line asks for, where it is formed as it should be.
+// A line's call, where the line is formed as it should be.
 fn with_call(line: Line, call: Call) -> Asked
-    ensures { λ r. ⌜ (r .at ≡ line .at) × (r .count ≡ line .count) × (r .numbers ≡ line .numbers) ⌝ }
+    ensures { λ r. ⌜ (r .line .at ≡ line .at) × (r .line .count ≡ line .count) × (r .line .numbers ≡ line .numbers) ⌝ }
 {
-    let numbers = line.numbers;
+    if line.good {
+        return Asked { call, line };
+    }
     Asked {
-        call: served(call, line.good),
-        room: line.room,
-        count: line.count,
-        numbers,
-        at: line.at,
+        call: Call::Bad,
+        line,
     }
 }
 
 // The request of a case.
 pub fn request(case: &[u8]) -> Asked
-    ensures { λ r. ⌜ (r .at ≤ length (now (case .entry))) × (r .count ≤ maxEntries) × (length (r .numbers) ≡ maxEntries) ⌝ }
+    ensures { λ r. ⌜ (r .line .at ≤ length (now (case .entry))) × (r .line .count ≤ maxEntries) × (length (r .line .numbers) ≡ maxEntries) ⌝ }
 {
     let equal = past(case, 0, b"equal");
     if equal > 0 {
@@ -254,7 +244,7 @@ pub fn request(case: &[u8]) -> Asked
     let measure = past(case, 0, b"measure");
     if measure > 0 {
         return with_call(
-            line_from(case, measure, 0, Asked::MAX_ENTRIES, false),
+            line_from(case, measure, 0, Line::MAX_ENTRIES, false),
             Call::Measure,
         );
     }

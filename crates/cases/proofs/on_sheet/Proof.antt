@@ -20,12 +20,12 @@ enum-known-call : tie.Need-enum-known-call
 enum-known-call c = search needs
 
 planned-requires : tie.Need-planned-requires
-planned-requires c κs = reading-held _ _ (c .before .before .before .before .before .before .read .ensures) (c .before .before .before .before .enum-told .given .1)
+planned-requires c κs = reading-held _ _ (c .before .before .before .before .before .before .before .read .ensures) (c .before .before .before .before .before .enum-told .given .1)
 
 measured-requires : tie.Need-measured-requires
 measured-requires c κs =
-    let start = c .before .before .before .before .before .before in
-    (reading-held _ _ (c .before .before .before .before .read .ensures) (c .before .before .enum-told .given .1), start .pre .0, start .pre .1)
+    let start = c .before .before .before .before .before .before .before in
+    (reading-held _ _ (c .before .before .before .before .before .read .ensures) (c .before .before .before .enum-told .given .1), start .pre .0, start .pre .1)
 
 returns : tie.Need-returns
 returns c = search needs
