@@ -1,6 +1,7 @@
 // Numbers as decimal digits, written into a list of bytes that the caller lends (01, 'The printed plan').
 ghost use Prim.Native.Nat.{_+_, _≤_};
 ghost use mathlib.Core.Path.{_≡_};
+ghost use mathlib.Core.List.{[], _∷_, _++_};
 ghost use lib.ListN.{length};
 ghost use Rattle.decimal.specs.Decimal.{decimal, signedDecimal};
 ghost use Rattle.decimal.specs.Writing.{Writes};
@@ -40,16 +41,26 @@ pub fn write(bytes: &mut [u8], at: usize, x: u32) -> usize
     next
 }
 
+// The same, and behind the digits the byte that ends the number.
+pub fn write_ended(bytes: &mut [u8], at: usize, x: u32, end: u8) -> usize
+    requires { ⌜ at + length (decimal x ++ end ∷ []) ≤ length (now bytes) ⌝ }
+    ensures { λ r. ⌜ Writes at (decimal x ++ end ∷ []) (now (bytes .entry)) (now (bytes .exit)) r ⌝ }
+{
+    let next = write(bytes, at, x);
+    bytes[next] = end;
+    next + 1
+}
+
 // The same for a signed number. The magnitude is taken in 64 bits, where that of the least i32 fits.
-pub fn write_signed(bytes: &mut [u8], at: usize, z: i32) -> usize
-    requires { ⌜ at + length (signedDecimal z) ≤ length (now bytes) ⌝ }
-    ensures { λ r. ⌜ Writes at (signedDecimal z) (now (bytes .entry)) (now (bytes .exit)) r ⌝ }
+pub fn write_signed(bytes: &mut [u8], at: usize, z: i32, end: u8) -> usize
+    requires { ⌜ at + length (signedDecimal z ++ end ∷ []) ≤ length (now bytes) ⌝ }
+    ensures { λ r. ⌜ Writes at (signedDecimal z ++ end ∷ []) (now (bytes .entry)) (now (bytes .exit)) r ⌝ }
 {
     if z < 0 {
         bytes[at] = MINUS;
         let wide = z as i64;
-        write(bytes, at + 1, (0 - wide) as u32)
+        write_ended(bytes, at + 1, (0 - wide) as u32, end)
     } else {
-        write(bytes, at, z as u32)
+        write_ended(bytes, at, z as u32, end)
     }
 }

@@ -1,5 +1,8 @@
 // The printed plan: an answer's text as bytes (01, 'The printed plan'). Each step writes some bytes of it into a lent list, from a place
 // on, and answers the next place.
+use bytes::copy;
+use decimal::write_ended;
+use decimal::write_signed;
 use plans::Answer;
 use plans::Plan;
 use sheet::Sheet;
@@ -9,10 +12,8 @@ use street::Verdict;
 use street::code_number;
 ghost use Prim.Native.Nat.{_+_, _≤_};
 ghost use mathlib.Core.Path.{_≡_};
-ghost use mathlib.Core.List.{[], _∷_, _++_};
 ghost use lib.ListN.{length, take};
 ghost use Rattle.street.specs.Limits.{maxSignals};
-ghost use Rattle.decimal.specs.Decimal.{decimal};
 ghost use Rattle.decimal.specs.Writing.{Writes};
 ghost use Rattle.printed.specs.Text.{maxText, planLine, offsetLines, refusalLine, textOf, printedOf, Prints};
 ghost use Rattle.printed.specs.Way.{listsOf, lentOf, planText, equalText, Held};
@@ -40,27 +41,16 @@ fn limits()
       ⌜ most ≡ maxText ⌝ }
 {}
 
-// A number and the byte that ends it.
-fn number(bytes: &mut [u8], at: usize, x: u32, end: u8) -> usize
-    requires { ⌜ at + length (decimal x ++ end ∷ []) ≤ length (now bytes) ⌝ }
-    ensures { λ r. ⌜ Writes at (decimal x ++ end ∷ []) (now (bytes .entry)) (now (bytes .exit)) r ⌝ }
-{
-    let next = decimal::write(bytes, at, x);
-    bytes[next] = end;
-    next + 1
-}
-
 // A plan's first line.
 fn plan_line(bytes: &mut [u8], at: usize, plan: Plan) -> usize
     requires { ⌜ at + length (planLine plan) ≤ length (now bytes) ⌝ }
     ensures { λ r. ⌜ Writes at (planLine plan) (now (bytes .entry)) (now (bytes .exit)) r ⌝ }
 {
-    let c = number(bytes, at, plan.reference, SPACE);
-    let b = decimal::write_signed(bytes, c, plan.b);
-    bytes[b] = SPACE;
-    let outbound = number(bytes, b + 1, plan.outbound, SPACE);
-    let inbound = number(bytes, outbound, plan.inbound, SPACE);
-    number(bytes, inbound, plan.rounded, LINE_END)
+    let c = write_ended(bytes, at, plan.reference, SPACE);
+    let b = write_signed(bytes, c, plan.b, SPACE);
+    let outbound = write_ended(bytes, b, plan.outbound, SPACE);
+    let inbound = write_ended(bytes, outbound, plan.inbound, SPACE);
+    write_ended(bytes, inbound, plan.rounded, LINE_END)
 }
 
 // A line for each offset.
@@ -70,32 +60,21 @@ fn offset_lines(bytes: &mut [u8], at: usize, offsets: &[u32]) -> usize
 {
     let mut next = at;
     for i in 0..offsets.len() {
-        next = number(bytes, next, offsets[i], LINE_END);
+        next = write_ended(bytes, next, offsets[i], LINE_END);
     }
     next
 }
 
-// Some bytes as they are.
-fn copied(bytes: &mut [u8], at: usize, word: &[u8]) -> usize
-    requires { ⌜ at + length (now word) ≤ length (now bytes) ⌝ }
-    ensures { λ r. ⌜ Writes at (now (word .entry)) (now (bytes .entry)) (now (bytes .exit)) r ⌝ }
-{
-    for i in 0..word.len() {
-        bytes[at + i] = word[i];
-    }
-    at + word.len()
-}
-
-// A refusal's line.
-fn refusal_line(bytes: &mut [u8], at: usize, refusal: Refusal) -> usize
-    requires { ⌜ at + length (refusalLine refusal) ≤ length (now bytes) ⌝ }
-    ensures { λ r. ⌜ Writes at (refusalLine refusal) (now (bytes .entry)) (now (bytes .exit)) r ⌝ }
+// A refusal's line, from the list's start.
+fn refusal_line(bytes: &mut [u8], refusal: Refusal) -> usize
+    requires { ⌜ length (refusalLine refusal) ≤ length (now bytes) ⌝ }
+    ensures { λ r. ⌜ Writes 0 (refusalLine refusal) (now (bytes .entry)) (now (bytes .exit)) r ⌝ }
 {
     let kind = refusal.code;
     let code = code_number(kind);
-    let word = copied(bytes, at, b"refused ");
-    let coded = number(bytes, word, code, SPACE);
-    number(bytes, coded, refusal.place, LINE_END)
+    let word = copy(b"refused ", bytes);
+    let coded = write_ended(bytes, word, code, SPACE);
+    write_ended(bytes, coded, refusal.place, LINE_END)
 }
 
 // An answer's lines, from the list's start.
@@ -108,7 +87,7 @@ fn answer_lines(bytes: &mut [u8], answer: Answer, offsets: &[u32]) -> usize
             let next = plan_line(bytes, 0, plan);
             offset_lines(bytes, next, offsets)
         }
-        Answer::Refused(refusal) => refusal_line(bytes, 0, refusal),
+        Answer::Refused(refusal) => refusal_line(bytes, refusal),
     }
 }
 

@@ -33,14 +33,14 @@ room-here c = omega arith
 loop-holds : tie.Need-loop-holds Inv-loop μ-loop
 loop-holds c = (refl, refl, refl)
 
-mul-number : tie.Need-mul-number Inv-loop μ-loop
-mul-number c = search needs
+mul-write-ended : tie.Need-mul-write-ended Inv-loop μ-loop
+mul-write-ended c = search needs
 
-shared-slice-read-number : tie.Need-shared-slice-read-number Inv-loop μ-loop
-shared-slice-read-number c = search needs
+shared-slice-read-write-ended : tie.Need-shared-slice-read-write-ended Inv-loop μ-loop
+shared-slice-read-write-ended c = search needs
 
-number-requires : tie.Need-number-requires Inv-loop μ-loop
-number-requires c κs =
+write-ended-requires : tie.Need-write-ended-requires Inv-loop μ-loop
+write-ended-requires c κs =
     let at-loop = c .before .before .before in
     let h = at-loop .loop in
     let l = at-loop .before .before .before .args .offsets .now in
@@ -61,7 +61,7 @@ loop-again c =
     let l = at-loop .before .before .before .args .offsets .now in
     let rest = offsetLines (drop (h .i + 1) l) in
     let parts = offset-line l (h .i) (omega arith) in
-    let call = c .before .before .number in
+    let call = c .before .before .write-ended in
     let line : Writes (h .next) (decimal (getD l (h .i) 0) ++ 10 ∷ []) (h .bytes) (call .last .0) (call .result) = call .ensures in (
       omega (arith, call .kept .0),
       omega (arith, ap length parts, length-append (decimal (getD l (h .i) 0) ++ 10 ∷ []) rest),
@@ -84,9 +84,9 @@ offset-lines-spec =
     Inv-loop
     μ-loop
     loop-holds
-    mul-number
-    shared-slice-read-number
-    number-requires
+    mul-write-ended
+    shared-slice-read-write-ended
+    write-ended-requires
     add-i
     loop-less
     loop-again

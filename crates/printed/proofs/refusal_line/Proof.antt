@@ -29,67 +29,58 @@ items c =
     ∙ three-items refused (decimal (codeNumber (refusal .code))) (decimal (refusal .place))
 
 -- there is room for them
-room :
-    (c : tie.After-code-number)
-    → c .before .before .args .at + (8 + length (code-item c) + length (place-item c)) ≤ length (c .before .before .args .bytes .now)
+room : (c : tie.After-code-number) → 8 + length (code-item c) + length (place-item c) ≤ length (c .before .before .args .bytes .now)
 room c =
     omega (arith, ap length (items c), three-sizes (refused ++ 32 ∷ []) (code-item c) (place-item c), c .before .before .pre)
 
-abbrev coded : tie.After-copied → tie.After-code-number
+abbrev coded : tie.After-copy → tie.After-code-number
 coded c = c .before .before .before
 
-abbrev at-word : tie.After-number → tie.After-copied
+abbrev at-word : tie.After-write-ended → tie.After-copy
 at-word c = c .before .before .before .before
+
+-- the word, which is written from the start
+word-written :
+    (c : tie.After-copy)
+    → Writes 0 (refused ++ 32 ∷ []) (coded c .before .before .args .bytes .now) (c .copy .last .1 .0) (c .copy .result)
+word-written c = record { after = c .copy .ensures .1; next = c .copy .ensures .0 }
 
 code-number-requires : tie.Need-code-number-requires
 code-number-requires c κs = search needs
 
-slice-aggregate-copied : tie.Need-slice-aggregate-copied
-slice-aggregate-copied c = search needs
+slice-aggregate-copy : tie.Need-slice-aggregate-copy
+slice-aggregate-copy c = search needs
 
-copied-requires : tie.Need-copied-requires
-copied-requires c κs = search needs
+copy-requires : tie.Need-copy-requires
+copy-requires c κs = search needs
 
-number-requires : tie.Need-number-requires
-number-requires c κs = let w = c .before .before .before in omega (arith, room (coded w), w .copied)
+write-ended-requires : tie.Need-write-ended-requires
+write-ended-requires c κs = let w = c .before .before .before in omega (arith, room (coded w), word-written w, w .copy)
 
-number-requires-2 : tie.Need-number-requires-2
-number-requires-2 c κs =
+write-ended-requires-2 : tie.Need-write-ended-requires-2
+write-ended-requires-2 c κs =
     let n = c .before .before .before in
-    omega (arith, room (coded (at-word n)), at-word n .copied, n .number)
+    omega (arith, room (coded (at-word n)), word-written (at-word n), at-word n .copy, n .write-ended)
 
 same-length : tie.Need-same-length
 same-length c = search needs
 
--- the code's number and the place, each in its own place
-code-written :
-    (c : tie.After-number)
-    → let w = at-word c .copied in
-    Writes (w .result) (code-item (coded (at-word c))) (w .last .0) (c .number .last .0) (c .number .result)
-code-written c = c .number .ensures
-
-place-written :
-    (c : tie.After-number2)
-    → let n = c .before .before .before .before in
-    Writes (n .number .result) (place-item (coded (at-word n))) (n .number .last .0) (c .number2 .last .0) (c .number2 .result)
-place-written c = c .number2 .ensures
-
 returns : tie.Need-returns
 returns c =
-    let n = c .before .before .before .before .before .before in
-    let start = coded (at-word n) .before .before in
-    let within : start .args .at ≤ length (start .args .bytes .now) = omega (arith, room (coded (at-word n))) in
-    writes-as (items (coded (at-word n)))
-    (writes-twice within (writes-twice within (at-word n .copied .ensures) (code-written n)) (place-written (c .before .before)))
+    let place = c .before .before in
+    let code = place .before .before .before .before in
+    let word = at-word code in
+    writes-as (items (coded word))
+    (writes-twice (omega arith) (writes-twice (omega arith) (word-written word) (code .write-ended .ensures)) (place .write-ended2 .ensures))
 
 pub refusal-line-spec : {M : Type 1} → statement M
 refusal-line-spec =
     tie.close
     (tie.spec
     code-number-requires
-    slice-aggregate-copied
-    copied-requires
-    number-requires
-    number-requires-2
+    slice-aggregate-copy
+    copy-requires
+    write-ended-requires
+    write-ended-requires-2
     same-length
     returns)

@@ -1,11 +1,11 @@
--- `number` meets its contract: it writes the digits and then the end byte, which is writing both at once. Assumes nothing.
+-- `write_ended` meets its contract: it writes the digits and then the end byte, which is writing both at once. Assumes nothing.
 use native.Mathlib.Omega.{arith}
 use mathlib.Core.List.{[], _∷_}
 use borrow.Author.Needs.{needs}
 use Rattle.decimal.specs.Decimal.{decimal}
 use Rattle.decimal.proofs.Writing.{writes-ended, room-first, room-left}
-use Rattle.printed.proofs.number.Statement.{statement}
-use Rattle.printed.proofs.number.Tie as tie
+use Rattle.decimal.proofs.write_ended.Statement.{statement}
+use Rattle.decimal.proofs.write_ended.Tie as tie
 
 write-requires : tie.Need-write-requires
 write-requires c κs =
@@ -30,5 +30,5 @@ returns c =
     let start = c .before .before .before .before .before in
     writes-ended (start .args .end) (start .pre) (c .before .before .write .ensures)
 
-pub number-spec : {M : Type 1} → statement M
-number-spec = tie.close (tie.spec write-requires slice-write-bytes add-result same-length returns)
+pub write-ended-spec : {M : Type 1} → statement M
+write-ended-spec = tie.close (tie.spec write-requires slice-write-bytes add-result same-length returns)
