@@ -1,6 +1,6 @@
 -- Every text has room in its buffer. An offset of 32 bits has at most ten digits, so its line takes 11 bytes at most; a number of any size
 -- is printed with at most 20, so the one line before the offsets takes no more than what they leave. Assumes nothing.
-use Prim.Native.Nat.{ℕ, suc, _+_, _*_, _^_, _≤_, _<_}
+use Prim.Native.Nat.{ℕ, suc, _*_, _^_, _≤_, _<_}
 use native.Mathlib.Omega.{arith}
 use mathlib.Core.List.{List, [], _∷_}
 use lib.IntN.{ℤ, pos, negsuc}

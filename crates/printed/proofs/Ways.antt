@@ -65,7 +65,10 @@ take-zeros k n l =
     ∙ take-at (zeros k) (zeros (n - k)) k (length-replicate k 0)
 
 -- what stands behind the lent list is not printed
-behind : (v : Verdict) (p : Plan) (entries before rest : List ℕ) → textOf (answered v p) (take (length entries) (written v entries before ++ rest)) ≡ textOf (answered v p) (take (length entries) (written v entries before))
+behind :
+    (v : Verdict) (p : Plan) (entries before rest : List ℕ)
+    → textOf (answered v p) (take (length entries) (written v entries before ++ rest))
+    ≡ textOf (answered v p) (take (length entries) (written v entries before))
 behind Passed p entries before rest =
     ap (λ xs. planLine p ++ offsetLines xs)
     (take-append-le (length entries) (entries ++ drop (length entries) before) rest
@@ -73,7 +76,13 @@ behind Passed p entries before rest =
 behind (Refused f) p entries before rest = refl
 
 -- the text of a plan as the code prints it: its answer, and the first of all the entries that the array now holds
-pub plan-text : (l : Lists) (room k n : ℕ) (r : Answer) (before after rest : List ℕ) → k ≡ lentOf room → n ≡ signals l → before ≡ take k (replicate maxSignals 0) → Requested Equal l before after r → textOf r (take n (after ++ rest)) ≡ planText l room
+pub plan-text :
+    (l : Lists) (room k n : ℕ) (r : Answer) (before after rest : List ℕ)
+    → k ≡ lentOf room
+    → n ≡ signals l
+    → before ≡ take k (replicate maxSignals 0)
+    → Requested Equal l before after r
+    → textOf r (take n (after ++ rest)) ≡ planText l room
 unfolding planText zeros
 plan-text l room k n r before after rest lent size clean ok =
     let entries = listBelow (signals l) (movedOffset Unmoved (timed l)) in

@@ -1,6 +1,7 @@
 -- `size` meets its contract. The invariant: the places counted and the digits of the rest are together one more than the number's
 -- digits. A turn counts one place and takes one digit off the rest, which is the measure. Assumes nothing.
 use Prim.Native.Nat.{_+_, _≤_}
+use native.Mathlib.Nat.{add-comm}
 use native.Mathlib.Omega.{arith}
 use mathlib.Core.Path.{_≡_, ap}
 use lib.ListN.{length}
@@ -16,7 +17,7 @@ abbrev μ-loop : tie.MeasureT-loop
 μ-loop x places₀ rest₀ places rest = rest
 
 loop-holds : tie.Need-loop-holds Inv-loop μ-loop
-loop-holds c = (omega arith, omega arith)
+loop-holds c = (omega arith, add-comm 1 (length (decimal (c .args .x))))
 
 add-places : tie.Need-add-places Inv-loop μ-loop
 add-places c = omega (arith, decimal-ten (c .before .before .args .x) (omega arith))

@@ -2,6 +2,7 @@
 -- `last` is the place of the rest's last digit. A turn writes that digit and takes it off the rest, which is the measure; behind the
 -- loop one digit is left. Assumes nothing.
 use Prim.Native.Nat.{ℕ, _+_, _/_, _%_, _^_, _≤_, _<_}
+use native.Mathlib.Nat.{sub-add-cancel}
 use native.Mathlib.Omega.{arith}
 use mathlib.Core.Path.{_≡_, refl, ap, _∙_}
 use mathlib.Core.List.{List}
@@ -13,9 +14,6 @@ use Rattle.decimal.proofs.Digits.{one-digit, decimal-more, size-more, d
 use Rattle.decimal.proofs.Writing.{last-first, overwritten-byte}
 use Rattle.decimal.proofs.write.Statement.{statement}
 use Rattle.decimal.proofs.write.Tie as tie
-use Rattle.decimal.proofs.write.Reads as reads
-use Rattle.decimal.proofs.write.Lts as lts
-use Rattle.decimal.proofs.size.Reads as size-reads
 
 -- a list l and a number whose last digit goes to the place `last`
 module _ (l : List ℕ) (at x last : ℕ) (there : last < length l) (place : last + 1 ≡ at + length (decimal x)) where
@@ -53,8 +51,9 @@ sub-last c = omega (arith, decimal-some (c .before .before .args .x))
 
 loop-holds : tie.Need-loop-holds Inv-loop μ-loop
 loop-holds c =
-    let some = decimal-some (c .before .before .args .x) in
-    (omega arith, omega arith, omega arith, refl, refl)
+    let a = c .before .before .args in
+    let some = decimal-some (a .x) in
+    (omega arith, omega arith, sub-add-cancel (omega arith) ∙ ap (λ (k : ℕ). a .at + k) (c .size .ensures), refl, refl)
 
 cast-bytes : tie.Need-cast-bytes Inv-loop μ-loop
 cast-bytes c = search needs

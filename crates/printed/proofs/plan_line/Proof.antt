@@ -11,6 +11,7 @@ use mir.Val.{SFits, toZ, ofZ}
 use mir.ValLaws.{toZ-ofZ}
 use borrow.Author.Needs.{needs}
 use Rattle.decimal.specs.Decimal.{decimal, signedDecimal}
+use Rattle.decimal.specs.Writing.{Writes}
 use Rattle.decimal.proofs.Writing.{writes-twice, writes-as}
 use Rattle.plans.specs.declared.Plan.{Plan}
 use Rattle.printed.specs.Text.{planLine}
@@ -91,6 +92,18 @@ write-ended-requires-4 c κs =
     let b = ap length (b-again (entry first)) in
     omega (arith, room (entry first), first .write-ended, signed .write-signed, third .write-ended2, fourth .write-ended3)
 
+-- the outbound width, in its own place
+outbound-item :
+    (c : tie.After-write-ended2)
+    → let signed = at-b c .write-signed in
+    Writes
+    (signed .result)
+    (item (entry (at-c (at-b c)) .args .plan .outbound))
+    (signed .last .0)
+    (c .write-ended2 .last .0)
+    (c .write-ended2 .result)
+outbound-item c = c .write-ended2 .ensures
+
 same-length : tie.Need-same-length
 same-length c = search needs
 
@@ -104,7 +117,7 @@ returns c =
     let start = entry first in
     let within : start .args .at ≤ length (start .args .bytes .now) = omega (arith, room start) in
     let b = writes-as (b-again start) (signed .write-signed .ensures) in
-    let widths = writes-twice within (writes-twice within (writes-twice within (first .write-ended .ensures) b) (third .write-ended2 .ensures)) (fourth .write-ended3 .ensures) in
+    let widths = writes-twice within (writes-twice within (writes-twice within (first .write-ended .ensures) b) (outbound-item third)) (fourth .write-ended3 .ensures) in
     writes-as (items (start .args .plan)) (writes-twice within widths (fifth .write-ended4 .ensures))
 
 pub plan-line-spec : {M : Type 1} → statement M
