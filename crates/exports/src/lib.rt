@@ -3,6 +3,7 @@
 use bands::Measurement;
 use plans::Answer;
 use plans::Request;
+use printed::Printed;
 use sheet::Sheet;
 use street::Street;
 use street::Verdict;
@@ -60,7 +61,7 @@ pub struct CorbatanSheet {
 #[repr(C)]
 pub struct CorbatanText {
     pub count: usize,
-    pub bytes: [u8; 512],
+    pub bytes: [u8; Printed::MAX_BYTES],
 }
 
 // Any plan's answer.
