@@ -10,7 +10,7 @@ use lib.ListN.{length, getD}
 use lib.Dec.{eqb}
 use borrow.Author.Tests.{eq-eqb, ne-eqb, le-leb, leb-false}
 use Rattle.circle.specs.Over.{firstBelow}
-use Rattle.circle.proofs.Over.{first-none}
+use Rattle.circle.proofs.Numbers.{first-none}
 use Rattle.street.specs.Limits.{minSignals, maxSignals}
 use Rattle.street.specs.Lists.{Lists, signals}
 use Rattle.street.specs.Checks.{_and_, within, refuse, unless, orNext, firstFault, countCheck, roomCheck, cycleCheck, redCheck, distanceCheck, speedCheck, planChecks}

@@ -8,7 +8,7 @@ use lib.ListN.{getD}
 use Rattle.circle.specs.Over.{sumBelow, firstBelow}
 use Rattle.circle.specs.Method.{redStart}
 use Rattle.circle.specs.Bands.{Way, allBelow, greatestUpTo, clear, stretch, width, bandStart, outboundWay, inboundWay}
-use Rattle.circle.proofs.Candidates.{from, Best, IsBand, best-none, best-wider, best-stays, best-band}
+use Rattle.circle.proofs.Stretches.{from, Best, IsBand, best-none, best-wider, best-stays, best-band}
 use Rattle.street.specs.Lists.{Lists, typed}
 use Rattle.street.specs.Checks.{countCheck, cycleCheck, redCheck, distanceCheck, speedCheck}
 use Rattle.street.specs.Times.{timed}

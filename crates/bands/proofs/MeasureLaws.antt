@@ -11,9 +11,8 @@ use lib.ListN.{length, getD, drop, replicate}
 use Rattle.circle.specs.Over.{sumBelow}
 use Rattle.circle.specs.Method.{Timed, halves, redStart}
 use Rattle.circle.specs.Bands.{Way, outboundWay, inboundWay}
-use Rattle.circle.proofs.Man.{man-lt}
-use Rattle.circle.proofs.Over.{getD-listBelow}
-use Rattle.circle.proofs.Alike.{outbound-alike, inbound-alike}
+use Rattle.circle.proofs.Numbers.{man-lt, getD-listBelow}
+use Rattle.circle.proofs.Stretches.{outbound-alike, inbound-alike}
 use Rattle.street.specs.Limits.{maxSignals}
 use Rattle.street.specs.Lists.{Lists, signals}
 use Rattle.street.specs.Checks.{orNext, planChecks}

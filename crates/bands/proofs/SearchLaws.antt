@@ -14,13 +14,8 @@ use borrow.Author.Tests.{lt-ltb, le-ltb}
 use Rattle.circle.specs.Man.{man}
 use Rattle.circle.specs.Method.{Timed, halves, redStart}
 use Rattle.circle.specs.Bands.{Way, width}
-use Rattle.circle.proofs.Man.{man-lt, man-is, man-turns}
-use Rattle.circle.proofs.Over.{minBelow, min-more}
-use Rattle.circle.proofs.Arcs.{since}
-use Rattle.circle.proofs.Stretches.{Proper}
-use Rattle.circle.proofs.Longest.{longest, left, endAt, since-end}
-use Rattle.circle.proofs.Candidates.{from, Best, best-wider, best-sooner, best-stays, best-band}
-use Rattle.circle.proofs.Alike.{past, Alike, width-alike, start-alike}
+use Rattle.circle.proofs.Numbers.{man-lt, man-is, man-turns, minBelow, min-more}
+use Rattle.circle.proofs.Stretches.{since, Proper, longest, left, endAt, since-end, from, Best, best-wider, best-sooner, best-stays, best-band, past, Alike, width-alike, start-alike}
 use Rattle.street.specs.Streets.{timedStreet, Sound}
 use Rattle.street.specs.declared.Street.{Street}
 use Rattle.bands.specs.declared.Band.{Band}

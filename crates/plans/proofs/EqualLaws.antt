@@ -4,8 +4,8 @@ use mathlib.Core.Path.{_≡_}
 use native.Mathlib.Omega.{arith}
 use Rattle.circle.specs.Method.{Timed, halves, reference, offset}
 use Rattle.circle.specs.Moved.{lowered}
-use Rattle.circle.proofs.Man.{man-is}
-use Rattle.circle.proofs.Method.{offset-lt}
+use Rattle.circle.proofs.Numbers.{man-is}
+use Rattle.circle.proofs.Formulas.{offset-lt}
 use Rattle.plans.specs.Moved.{movedOffset}
 use Rattle.plans.specs.declared.widths.Shift.the-variants.{Unmoved}
 

@@ -14,13 +14,9 @@ use Rattle.circle.specs.Man.{man}
 use Rattle.circle.specs.Over.{listBelow}
 use Rattle.circle.specs.Method.{Timed, halves, u, reference, phase, offset, redEnd, redStart}
 use Rattle.circle.specs.Moved.{chosen, lowered}
-use Rattle.circle.proofs.Over.{getD-listBelow}
-use Rattle.circle.proofs.Man.{man-lt, man-is, man-turns}
-use Rattle.circle.proofs.Method.{reference-lt}
-use Rattle.circle.proofs.Raised.{Fit, B⁺}
-use Rattle.circle.proofs.Reference.{phase-test}
-use Rattle.circle.proofs.Reflection.{offset-turns}
-use Rattle.circle.proofs.Moving.{outbound-lowering, inbound-lowering}
+use Rattle.circle.proofs.Numbers.{getD-listBelow, man-lt, man-is, man-turns}
+use Rattle.circle.proofs.Formulas.{reference-lt, Fit, B⁺, phase-test, outbound-lowering, inbound-lowering}
+use Rattle.circle.proofs.Stretches.{offset-turns}
 use Rattle.street.specs.Limits.{maxTime}
 use Rattle.street.specs.Streets.{timedStreet, Sound}
 use Rattle.street.specs.declared.Street.{Street}

@@ -12,10 +12,8 @@ use Rattle.circle.specs.Signed.{orZero}
 use Rattle.circle.specs.Over.{listBelow}
 use Rattle.circle.specs.Method.{Timed, reference, redEnd, redStart}
 use Rattle.circle.specs.Moved.{g, platoonWidth}
-use Rattle.circle.proofs.Over.{list-ext, length-listBelow}
-use Rattle.circle.proofs.Method.{Agree, B-agree, reference-agree, equalWidth-agree, redEnd-agree, redStart-agree, reference-lt}
-use Rattle.circle.proofs.Platoons.{platoon-le}
-use Rattle.circle.proofs.AgreeMoved.{inRange-agree, otherWidth-agree, platoonWidth-agree, outboundLowering-agree, inboundLowering-agree, lowered-agree}
+use Rattle.circle.proofs.Numbers.{list-ext, length-listBelow}
+use Rattle.circle.proofs.Formulas.{Agree, B-agree, reference-agree, equalWidth-agree, redEnd-agree, redStart-agree, reference-lt, platoon-le, inRange-agree, otherWidth-agree, platoonWidth-agree, outboundLowering-agree, inboundLowering-agree, lowered-agree}
 use Rattle.street.specs.Limits.{maxHalves, maxPlatoon}
 use Rattle.street.specs.Lists.{Lists, signals}
 use Rattle.street.specs.Checks.{refuse, unless, orNext, firstFault, planChecks}

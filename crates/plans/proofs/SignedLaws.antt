@@ -7,7 +7,7 @@ use lib.IntN.{ℤ, pos, subℕ, _-ℤ_}
 use mir.Syntax.{w32}
 use mir.Val.{SFits, toZ, ofZ}
 use mir.ValLaws.{toZ-ofZ, toZ-pos}
-use Rattle.circle.proofs.Signed.{sub-pos, sub-neg, pos-minus}
+use Rattle.circle.proofs.Numbers.{sub-pos, sub-neg, pos-minus}
 
 -- a difference of two numbers of 31 bits fits 32
 small-fits : (a h : ℕ) → a < 2 ^ 31 → h < 2 ^ 31 → SFits w32 (pos a -ℤ pos h)

@@ -7,7 +7,7 @@ use native.Mathlib.Omega.{arith}
 use lib.IntN.{pos, _-ℤ_}
 use Rattle.circle.specs.Method.{halves, reference, offset}
 use Rattle.circle.specs.Moved.{lowered}
-use Rattle.circle.proofs.Man.{man-lt}
+use Rattle.circle.proofs.Numbers.{man-lt}
 use Rattle.street.specs.Checks.{planChecks}
 use Rattle.street.specs.Times.{timed}
 use Rattle.street.specs.declared.Verdict.the-variants.{Passed}

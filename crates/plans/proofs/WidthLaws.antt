@@ -8,8 +8,7 @@ use native.Mathlib.Nat.{mul-le-mul}
 use Rattle.circle.specs.Signed.{orZero}
 use Rattle.circle.specs.Method.{Timed, halves}
 use Rattle.circle.specs.Moved.{g, inRange}
-use Rattle.circle.proofs.Raised.{Fit, B⁺}
-use Rattle.circle.proofs.Moving.{B⁺-is, g-is, green-le, asked, asked-green}
+use Rattle.circle.proofs.Formulas.{Fit, B⁺, B⁺-is, g-is, green-le, asked, asked-green}
 use Rattle.street.specs.Limits.{maxCycle, maxHalves, maxPlatoon}
 use Rattle.street.specs.Checks.{unless}
 use Rattle.street.specs.Streets.{timedStreet}

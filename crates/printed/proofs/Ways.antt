@@ -10,7 +10,7 @@ use lib.ListN.{length, take, drop, replicate, length-append, length-drop, length
 use lib.Seq.{length-take-le, take-append-le, take-append-seam, take-at}
 use borrow.Author.Tests.{lt-ltb, le-ltb}
 use Rattle.circle.specs.Over.{listBelow}
-use Rattle.circle.proofs.Over.{length-listBelow}
+use Rattle.circle.proofs.Numbers.{length-listBelow}
 use Rattle.street.specs.Limits.{maxSignals}
 use Rattle.street.specs.Lists.{Lists, signals}
 use Rattle.street.specs.Times.{timed, m}

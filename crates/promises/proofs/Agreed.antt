@@ -6,11 +6,10 @@ use lib.IntN.{pos, _-ℤ_}
 use Rattle.circle.specs.Man.{man}
 use Rattle.circle.specs.Method.{Timed, halves, reference, redEnd, redStart}
 use Rattle.circle.specs.Bands.{outboundWay, inboundWay}
-use Rattle.circle.proofs.Man.{Turns}
-use Rattle.circle.proofs.Method.{reference-lt}
-use Rattle.circle.proofs.Since.{along}
-use Rattle.circle.proofs.Reflection.{Patterned}
-use Rattle.circle.proofs.Named.{Named, Bands}
+use Rattle.circle.proofs.Numbers.{Turns}
+use Rattle.circle.proofs.Formulas.{reference-lt}
+use Rattle.circle.proofs.Stretches.{along, Patterned}
+use Rattle.circle.proofs.Bands.{Named, Bands}
 
 module _ (s : Timed) (f g : ℕ → ℕ) (same : (j : ℕ) → j < s .signals → g j ≡ f j) where
   named-same : {lag : ℕ → ℕ} (c instant a v : ℕ) → Named (along (outboundWay s f) lag) c instant a v → Named (along (outboundWay s g) lag) c instant a v

@@ -5,9 +5,9 @@ use Prim.Native.Nat.{ℕ, _-_, _*_}
 use mathlib.Core.Path.{_≡_}
 use native.Mathlib.Omega.{arith}
 use Rattle.circle.specs.Bands.{Way, outboundWay, inboundWay}
-use Rattle.circle.proofs.Raised.{Fit}
-use Rattle.circle.proofs.Since.{along, Rising}
-use Rattle.circle.proofs.Scale.{scaled, fit-scaled, rising-scaled, Finer, outbound-finer, inbound-finer}
+use Rattle.circle.proofs.Formulas.{Fit}
+use Rattle.circle.proofs.Stretches.{along, Rising}
+use Rattle.circle.proofs.Bands.{scaled, fit-scaled, rising-scaled, Finer, outbound-finer, inbound-finer}
 use Rattle.street.specs.Lists.{Lists, signals}
 use Rattle.street.specs.Checks.{planChecks}
 use Rattle.street.specs.Times.{linkTicks, roundedLink, m, timed}

@@ -4,7 +4,7 @@ use Prim.Native.Nat.{ℕ, _-_}
 use mathlib.Core.Path.{subst}
 use lib.ListN.{length, getD}
 use Rattle.circle.specs.Method.{reference, redEnd, redStart}
-use Rattle.circle.proofs.Method.{reference-lt}
+use Rattle.circle.proofs.Formulas.{reference-lt}
 use Rattle.street.specs.Times.{timed}
 use Rattle.plans.specs.Moved.{shiftOf, movedOffset, outboundWidth, inboundWidth}
 use Rattle.promises.specs.Replies.{BandsKept, ReplyBands}

@@ -10,10 +10,9 @@ use borrow.Author.Tests.{lt-leb}
 use Rattle.circle.specs.Man.{man}
 use Rattle.circle.specs.Method.{halves, reference, offset, redStart}
 use Rattle.circle.specs.Bands.{width, outboundWay, inboundWay}
-use Rattle.circle.proofs.Over.{first-nowhere, length-listBelow, getD-listBelow}
-use Rattle.circle.proofs.Method.{offset-lt}
-use Rattle.circle.proofs.Since.{along}
-use Rattle.circle.proofs.Alike.{Alike, width-alike}
+use Rattle.circle.proofs.Numbers.{first-nowhere, length-listBelow, getD-listBelow}
+use Rattle.circle.proofs.Formulas.{offset-lt}
+use Rattle.circle.proofs.Stretches.{along, Alike, width-alike}
 use Rattle.street.specs.Lists.{Lists, signals}
 use Rattle.street.specs.Checks.{planChecks, orNext, faultAt}
 use Rattle.street.specs.Times.{timed}

@@ -11,16 +11,9 @@ use borrow.Author.Tests.{lt-ltb, le-ltb, eq-eqb, ne-eqb}
 use Rattle.circle.specs.Method.{Timed, inUnits, reference, phase, offset, equalWidth}
 use Rattle.circle.specs.Bands.{width, outboundWay, inboundWay}
 use Rattle.circle.specs.Moved.{otherWidth, platoonWidth}
-use Rattle.circle.proofs.Raised.{Fit}
-use Rattle.circle.proofs.Since.{Rising}
-use Rattle.circle.proofs.Bound.{Bounded}
-use Rattle.circle.proofs.Moving.{other-width}
-use Rattle.circle.proofs.Named.{Bands}
-use Rattle.circle.proofs.Planned.{equal-bands, outbound-bands, inbound-bands}
-use Rattle.circle.proofs.Best.{beside, neither, fill}
-use Rattle.circle.proofs.Reflection.{Patterned, offset-patterned}
-use Rattle.circle.proofs.Platoons.{platoons-range}
-use Rattle.circle.proofs.Scale.{fit-scaled, rising-scaled, other-scaled}
+use Rattle.circle.proofs.Formulas.{Fit, other-width, platoons-range}
+use Rattle.circle.proofs.Stretches.{Rising, Patterned, offset-patterned}
+use Rattle.circle.proofs.Bands.{Bounded, Bands, equal-bands, outbound-bands, inbound-bands, beside, neither, fill, fit-scaled, rising-scaled, other-scaled}
 use Rattle.street.specs.Times.{timed}
 use Rattle.plans.proofs.EqualLaws.{unmoved-offset}
 use Rattle.plans.specs.Moved.{platoonShift, movedOffset, outboundWidth, inboundWidth}

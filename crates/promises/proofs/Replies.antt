@@ -9,10 +9,9 @@ use lib.ListN.{length, drop, getD}
 use Rattle.circle.specs.Over.{listBelow}
 use Rattle.circle.specs.Method.{Timed, reference, redEnd, redStart}
 use Rattle.circle.specs.Moved.{inRange, otherWidth}
-use Rattle.circle.proofs.Over.{getD-listBelow}
-use Rattle.circle.proofs.Method.{reference-lt}
-use Rattle.circle.proofs.Moving.{other-width}
-use Rattle.circle.proofs.Named.{Bands}
+use Rattle.circle.proofs.Numbers.{getD-listBelow}
+use Rattle.circle.proofs.Formulas.{reference-lt, other-width}
+use Rattle.circle.proofs.Bands.{Bands}
 use Rattle.street.specs.Lists.{Lists, signals}
 use Rattle.street.specs.Codes.{codeNumber}
 use Rattle.street.specs.Checks.{orNext, planChecks}

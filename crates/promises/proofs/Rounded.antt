@@ -5,15 +5,9 @@ use native.Mathlib.Omega.{arith}
 use native.Mathlib.Nat.{le-antisymm}
 use Rattle.circle.specs.Method.{Timed, inUnits, reference, phase, offset, equalWidth, redEnd, redStart}
 use Rattle.circle.specs.Bands.{width, outboundWay, inboundWay}
-use Rattle.circle.proofs.Arcs.{where-some}
-use Rattle.circle.proofs.Raised.{Fit}
-use Rattle.circle.proofs.Since.{Rising}
-use Rattle.circle.proofs.Bound.{Bounded, bound-signed}
-use Rattle.circle.proofs.Reflection.{Patterned, offset-turns, offset-patterned, likes}
-use Rattle.circle.proofs.Named.{Bands}
-use Rattle.circle.proofs.Planned.{equal-bands}
-use Rattle.circle.proofs.Best.{equal-best, neither}
-use Rattle.circle.proofs.Scale.{fit-scaled, rising-scaled, equal-scaled}
+use Rattle.circle.proofs.Stretches.{where-some, Rising, Patterned, offset-turns, offset-patterned, likes}
+use Rattle.circle.proofs.Formulas.{Fit}
+use Rattle.circle.proofs.Bands.{Bounded, bound-signed, Bands, equal-bands, equal-best, neither, fit-scaled, rising-scaled, equal-scaled}
 use Rattle.street.specs.Times.{timed}
 use Rattle.promises.specs.Rounded.{OnStreets, Measured, NoneWider, TogetherTwiceB, Mirrored, behind, BandsClear, NamedClear}
 use Rattle.promises.proofs.Streets.{fit, bounded, bounded-fine, rising}

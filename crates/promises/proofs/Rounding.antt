@@ -12,15 +12,10 @@ use Rattle.circle.specs.Man.{man}
 use Rattle.circle.specs.Method.{halves, reference, offset, equalWidth, redEnd, redStart}
 use Rattle.circle.specs.Bands.{width, outboundWay, inboundWay}
 use Rattle.circle.specs.Moved.{inRange, outboundLowering, inboundLowering, lowered, otherWidth, platoonWidth}
-use Rattle.circle.proofs.Man.{man-turns}
-use Rattle.circle.proofs.Arcs.{Passes}
-use Rattle.circle.proofs.Reference.{reference-first}
-use Rattle.circle.proofs.Named.{Bands}
-use Rattle.circle.proofs.Planned.{equal-bands, outbound-bands, inbound-bands}
-use Rattle.circle.proofs.Scale.{scaled, greatest-scaled}
-use Rattle.circle.proofs.Raised.{B⁺}
-use Rattle.circle.proofs.Moving.{equal-width}
-use Rattle.circle.proofs.Platoons.{platoons-range}
+use Rattle.circle.proofs.Numbers.{man-turns}
+use Rattle.circle.proofs.Stretches.{Passes}
+use Rattle.circle.proofs.Formulas.{reference-first, B⁺, equal-width, platoons-range}
+use Rattle.circle.proofs.Bands.{Bands, equal-bands, outbound-bands, inbound-bands, scaled, greatest-scaled}
 use Rattle.street.specs.Lists.{Lists, signals}
 use Rattle.street.specs.Checks.{planChecks}
 use Rattle.street.specs.Times.{m, timed}

@@ -3,10 +3,9 @@
 use Prim.Native.Nat.{ℕ, _-_, _<_}
 use mathlib.Core.Path.{_≡_}
 use native.Mathlib.Omega.{arith}
-use Rattle.circle.proofs.Raised.{Fit}
-use Rattle.circle.proofs.Since.{Stops, Rising}
-use Rattle.circle.proofs.Scale.{scaled, fit-scaled, stops-scaled, rising-scaled}
-use Rattle.circle.proofs.Bound.{Bounded, bound}
+use Rattle.circle.proofs.Formulas.{Fit}
+use Rattle.circle.proofs.Stretches.{Stops, Rising}
+use Rattle.circle.proofs.Bands.{scaled, fit-scaled, stops-scaled, rising-scaled, Bounded, bound}
 use Rattle.street.specs.Lists.{Lists, signals}
 use Rattle.street.specs.Checks.{planChecks}
 use Rattle.street.specs.Times.{timed, linkTicks}

@@ -11,14 +11,9 @@ use lib.IntN.{pos, _-ℤ_}
 use Rattle.circle.specs.Man.{man}
 use Rattle.circle.specs.Method.{halves, redStart}
 use Rattle.circle.specs.Bands.{Way, clear, stretch, width, bandStart, outboundWay}
-use Rattle.circle.proofs.Man.{Turns, man-turns}
-use Rattle.circle.proofs.Tests.{all-each}
-use Rattle.circle.proofs.Arcs.{since, Passes}
-use Rattle.circle.proofs.Since.{along}
-use Rattle.circle.proofs.Named.{Named, meets}
-use Rattle.circle.proofs.Stretches.{Proper, passes-stretch, since-turns, width-ge, band-starts}
-use Rattle.circle.proofs.Perturbation.{lags-passes, lags-back, part}
-use Rattle.circle.proofs.Scale.{finer-passes}
+use Rattle.circle.proofs.Numbers.{Turns, man-turns, all-each}
+use Rattle.circle.proofs.Stretches.{since, Passes, along, Proper, passes-stretch, since-turns, width-ge, band-starts, lags-passes, lags-back, part}
+use Rattle.circle.proofs.Bands.{Named, meets, finer-passes}
 use Rattle.street.specs.Lists.{Lists, signals}
 use Rattle.street.specs.Checks.{planChecks}
 use Rattle.street.specs.Times.{m, timed}

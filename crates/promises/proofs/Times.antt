@@ -4,8 +4,7 @@ use mathlib.Core.Path.{_≡_, sym, ap, _∙_}
 use native.Mathlib.Omega.{arith}
 use lib.IntN.{pos, negℤ, _-ℤ_}
 use Rattle.circle.specs.Over.{sumBelow}
-use Rattle.circle.proofs.Over.{sum-more}
-use Rattle.circle.proofs.Signed.{pos-minus, pos-sub, sub-eq, neg-sub}
+use Rattle.circle.proofs.Numbers.{sum-more, pos-minus, pos-sub, sub-eq, neg-sub}
 use Rattle.street.specs.Times.{linkTicks}
 use Rattle.promises.specs.Rounded.{SignedTimes}
 

@@ -8,13 +8,9 @@ use native.Mathlib.Nat.{mul-le-mul-left}
 use Rattle.circle.specs.Method.{halves, reference, phase, offset, equalWidth, redEnd, redStart}
 use Rattle.circle.specs.Bands.{width}
 use Rattle.circle.specs.Moved.{outboundLowering, inboundLowering, lowered, otherWidth}
-use Rattle.circle.proofs.Reflection.{Patterned, offset-patterned}
-use Rattle.circle.proofs.Scale.{scaled, equal-scaled, other-scaled, patterned-scaled}
-use Rattle.circle.proofs.Raised.{B⁺}
-use Rattle.circle.proofs.Moving.{asked, other-width}
-use Rattle.circle.proofs.Named.{Bands}
-use Rattle.circle.proofs.Planned.{equal-bands, outbound-bands, inbound-bands}
-use Rattle.circle.proofs.Best.{beside, neither}
+use Rattle.circle.proofs.Stretches.{Patterned, offset-patterned}
+use Rattle.circle.proofs.Bands.{scaled, equal-scaled, other-scaled, patterned-scaled, Bands, equal-bands, outbound-bands, inbound-bands, beside, neither}
+use Rattle.circle.proofs.Formulas.{B⁺, asked, other-width}
 use Rattle.street.specs.Lists.{Lists}
 use Rattle.street.specs.Checks.{planChecks}
 use Rattle.street.specs.Times.{m, timed}

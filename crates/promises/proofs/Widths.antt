@@ -8,14 +8,10 @@ use native.Mathlib.Nat.{le-antisymm}
 use lib.IntN.{pos, _-ℤ_}
 use Rattle.circle.specs.Method.{Timed, halves, reference, redEnd, redStart}
 use Rattle.circle.specs.Bands.{Way, clear, stretch, width, outboundWay, inboundWay}
-use Rattle.circle.proofs.Man.{Turns, man-lt, man-turns}
-use Rattle.circle.proofs.Arcs.{Passes, where-some}
-use Rattle.circle.proofs.Raised.{Fit}
-use Rattle.circle.proofs.Since.{along}
-use Rattle.circle.proofs.Named.{Named, Bands, meets}
-use Rattle.circle.proofs.Tests.{all-each}
-use Rattle.circle.proofs.Stretches.{Proper, passes-stretch, since-turns, width-ge, band-starts}
-use Rattle.circle.proofs.Perturbation.{part}
+use Rattle.circle.proofs.Numbers.{Turns, man-lt, man-turns, all-each}
+use Rattle.circle.proofs.Stretches.{Passes, where-some, along, Proper, passes-stretch, since-turns, width-ge, band-starts, part}
+use Rattle.circle.proofs.Formulas.{Fit}
+use Rattle.circle.proofs.Bands.{Named, Bands, meets}
 use Rattle.promises.specs.Rounded.{behind}
 
 -- both ways through a street, under any lags

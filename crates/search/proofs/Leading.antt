@@ -9,9 +9,10 @@ use native.Mathlib.Decide.{ℕ-discrete}
 use lib.Seq.{getD-set-same, getD-set-other}
 use Rattle.circle.specs.Over.{leastBelow}
 use Rattle.circle.specs.Method.{Timed, halves, B}
-use Rattle.circle.proofs.Signed.{pos-minus, pos-sub, sub-injective}
-use Rattle.circle.proofs.Over.{minBelow, maxBelow, max-more, max-ge, least-raised}
-use Rattle.circle.proofs.Raised.{Fit, larger-raised, b⁺, b⁺-le, top, B-raised, reference-is}
+use Rattle.circle.proofs.Numbers.{pos-minus, pos-sub, sub-injective, minBelow, max-more, max-ge, least-raised}
+use Rattle.circle.proofs.Numbers.Over.{maxBelow}
+use Rattle.circle.proofs.Formulas.{Fit, larger-raised, b⁺-le, top, B-raised, reference-is}
+use Rattle.circle.proofs.Formulas.Raised.{b⁺}
 use Rattle.street.specs.Streets.{timedStreet, Sound}
 use Rattle.street.specs.declared.Street.{Street}
 use Rattle.search.specs.Search.{signedOf, Row, wider, Reduced, Turning, Searched}

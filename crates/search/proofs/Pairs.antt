@@ -8,9 +8,8 @@ use lib.IntN.{pos, _-ℤ_}
 use lib.ListN.{getD}
 use Rattle.circle.specs.Man.{man}
 use Rattle.circle.specs.Method.{Timed, halves}
-use Rattle.circle.proofs.Man.{man-lt, man-step, minus-minus}
-use Rattle.circle.proofs.Method.{u-reduced}
-use Rattle.circle.proofs.Raised.{raised}
+use Rattle.circle.proofs.Numbers.{man-lt, man-step, minus-minus}
+use Rattle.circle.proofs.Formulas.{u-reduced, raised}
 use Rattle.search.specs.Search.{place, pairOf, Reduced}
 
 -- a pair's two numbers, from the two remainders that the code takes one after the other

@@ -9,7 +9,7 @@ use lib.ListN.{length, getD}
 use lib.Dec.{leb, ltb}
 use borrow.Author.Tests.{ltb-false, leb-false, lt-ltb, leb-true, le-leb, not-false}
 use Rattle.circle.specs.Over.{Found, nowhere, at, firstBelow}
-use Rattle.circle.proofs.Over.{first-none}
+use Rattle.circle.proofs.Numbers.{first-none}
 use Rattle.street.specs.Limits.{maxSignals, minCycle, maxCycle, minRed, maxDistance, minSpeed, maxSpeed}
 use Rattle.street.specs.Lists.{Lists, signals}
 use Rattle.street.specs.Checks.{within, faultAt, orNext, firstFault, _or_, badRed, badDistance, badSpeed, countCheck, roomCheck, cycleCheck, redCheck, distanceCheck, speedCheck, counts, openingChecks, numberChecks, planChecks}

@@ -3,8 +3,8 @@ use Prim.Native.Nat.{ℕ, _-_, _<_}
 use mathlib.Core.Path.{_≡_, refl, sym, ap, _∙_, subst}
 use native.Mathlib.Omega.{arith}
 use lib.ListN.{drop, getD, replicate}
-use Rattle.circle.proofs.Over.{getD-listBelow}
-use Rattle.circle.proofs.Method.{Agree}
+use Rattle.circle.proofs.Numbers.{getD-listBelow}
+use Rattle.circle.proofs.Formulas.{Agree}
 use Rattle.street.specs.Limits.{maxSignals}
 use Rattle.street.specs.Lists.{Lists, signals}
 use Rattle.street.specs.Checks.{planChecks}

@@ -7,7 +7,7 @@ use native.Mathlib.Omega.{arith}
 use native.Mathlib.Nat.{div-lt-iff-lt-mul}
 use lib.ListN.{length, getD}
 use Rattle.circle.specs.Over.{sumBelow, countBelow}
-use Rattle.circle.proofs.Over.{sum-more}
+use Rattle.circle.proofs.Numbers.{sum-more}
 use Rattle.street.specs.Limits.{maxDistance, minSpeed, maxLinkTime}
 use Rattle.street.specs.Times.{ticks, linkLength, linkTicks, timeTo, Driveable}
 

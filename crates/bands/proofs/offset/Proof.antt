@@ -8,7 +8,7 @@ use lib.ListN.{length}
 use borrow.Author.Count.{below-none, below-more}
 use borrow.Author.Tests.{le-leb, lt-leb}
 use borrow.Author.Needs.{needs}
-use Rattle.circle.proofs.Over.{first-at, first-nowhere}
+use Rattle.circle.proofs.Numbers.{first-at, first-nowhere}
 use Rattle.street.specs.Checks.{faultAt}
 use Rattle.street.specs.declared.Code.the-variants.{Offset}
 use Rattle.bands.specs.Measure.{badOffset, offsetCheck}

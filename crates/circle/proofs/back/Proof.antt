@@ -1,6 +1,6 @@
 -- `circle::back` meets its contract: on the circle one comparison does for the division. Assumes nothing.
 use borrow.Author.Needs.{needs}
-use Rattle.circle.proofs.Rounds.{since-within, since-round}
+use Rattle.circle.proofs.Numbers.Rounds.{since-within, since-round}
 use Rattle.circle.proofs.back.Statement.{statement}
 use Rattle.circle.proofs.back.Tie as tie
 

@@ -2,7 +2,7 @@
 use native.Mathlib.Nat.{mod-lt}
 use native.Mathlib.Omega.{arith}
 use borrow.Author.Needs.{needs}
-use Rattle.circle.proofs.Rounds.{remainder-man}
+use Rattle.circle.proofs.Numbers.Rounds.{remainder-man}
 use Rattle.circle.proofs.remainder.Statement.{statement}
 use Rattle.circle.proofs.remainder.Tie as tie
 

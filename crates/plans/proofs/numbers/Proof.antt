@@ -8,7 +8,7 @@ use lib.ListN.{getD}
 use Rattle.street.specs.Limits.{maxCycle}
 use Rattle.street.specs.Streets.{timedStreet}
 use Rattle.circle.specs.Method.{B, reference, redEnd, redStart}
-use Rattle.circle.proofs.Method.{reference-lt}
+use Rattle.circle.proofs.Formulas.{reference-lt}
 use Rattle.plans.proofs.SignedLaws.{reread}
 use Rattle.plans.proofs.OffsetLaws.{moved-lt, red-end-man, red-start-man}
 use borrow.Author.Needs.{needs}

@@ -6,7 +6,7 @@ use native.Mathlib.Omega.{arith}
 use lib.ListN.{length, length-set, drop, getD}
 use borrow.Author.Needs.{needs}
 use Rattle.circle.specs.Over.{listBelow}
-use Rattle.circle.proofs.Over.{fill-store, getD-listBelow}
+use Rattle.circle.proofs.Numbers.{fill-store, getD-listBelow}
 use Rattle.search.specs.Search.{pairOf}
 use Rattle.search.proofs.fill.Statement.{statement}
 use Rattle.search.proofs.fill.Tie as tie

@@ -6,8 +6,7 @@ use lib.IntN.{pos}
 use borrow.Author.Needs.{needs}
 use Rattle.circle.specs.Over.{leastBelow}
 use Rattle.circle.specs.Signed.{minℤ}
-use Rattle.circle.proofs.Signed.{pos-min}
-use Rattle.circle.proofs.Over.{least-more}
+use Rattle.circle.proofs.Numbers.{pos-min, least-more}
 use Rattle.search.specs.Search.{wider}
 use Rattle.search.proofs.least.Statement.{statement}
 use Rattle.search.proofs.least.Tie as tie

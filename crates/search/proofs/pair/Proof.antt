@@ -3,7 +3,7 @@ use Prim.Native.Nat.{_*_, _<_}
 use native.Mathlib.Omega.{arith}
 use lib.IntN.{pos, _-ℤ_}
 use borrow.Author.Needs.{needs}
-use Rattle.circle.proofs.Man.{man-lt}
+use Rattle.circle.proofs.Numbers.{man-lt}
 use Rattle.search.proofs.Pairs.{pair-is}
 use Rattle.search.proofs.pair.Statement.{statement}
 use Rattle.search.proofs.pair.Tie as tie

@@ -6,7 +6,7 @@ use native.Mathlib.Omega.{arith}
 use lib.ListN.{replicate, drop, getD}
 use borrow.Author.Needs.{needs}
 use Rattle.circle.specs.Over.{listBelow}
-use Rattle.circle.proofs.Over.{fill-store, getD-listBelow}
+use Rattle.circle.proofs.Numbers.{fill-store, getD-listBelow}
 use Rattle.street.specs.Limits.{maxSignals}
 use Rattle.street.specs.Streets.{timedStreet}
 use Rattle.search.specs.Search.{place}

@@ -12,7 +12,7 @@ use Rattle.search.proofs.Leading.{settled, Leading, leads-first, leads-
 use Rattle.street.specs.Limits.{maxSignals}
 use Rattle.street.specs.Streets.{timedStreet}
 use Rattle.search.specs.Search.{Row}
-use Rattle.circle.proofs.Raised.{b⁺}
+use Rattle.circle.proofs.Formulas.{b⁺}
 use Rattle.search.proofs.reference.Statement.{statement}
 use Rattle.search.proofs.reference.Tie as tie
 

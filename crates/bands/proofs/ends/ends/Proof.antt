@@ -10,7 +10,7 @@ use borrow.Author.Needs.{needs}
 use Rattle.circle.specs.Man.{man}
 use Rattle.circle.specs.Method.{halves}
 use Rattle.circle.specs.Over.{listBelow}
-use Rattle.circle.proofs.Over.{fill-store}
+use Rattle.circle.proofs.Numbers.{fill-store}
 use Rattle.street.specs.Limits.{maxSignals}
 use Rattle.street.specs.Streets.{timedStreet}
 use Rattle.bands.specs.Search.{endOf}

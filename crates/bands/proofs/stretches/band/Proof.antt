@@ -5,7 +5,7 @@ use mathlib.Core.Path.{subst, _≡_}
 use native.Mathlib.Omega.{arith}
 use lib.ListN.{getD}
 use borrow.Author.Needs.{needs}
-use Rattle.circle.proofs.Candidates.{Best, best-none}
+use Rattle.circle.proofs.Stretches.{Best, best-none}
 use Rattle.bands.specs.Search.{seenBy}
 use Rattle.bands.proofs.SearchLaws.{more-seen, best-seen}
 use Rattle.bands.proofs.stretches.band.Statement.{statement}

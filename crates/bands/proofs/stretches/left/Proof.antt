@@ -3,7 +3,7 @@
 use native.Mathlib.Omega.{arith}
 use lib.IntN.{pos, _-ℤ_}
 use borrow.Author.Needs.{needs}
-use Rattle.circle.proofs.Man.{man-lt}
+use Rattle.circle.proofs.Numbers.{man-lt}
 use Rattle.bands.proofs.stretches.left.Statement.{statement}
 use Rattle.bands.proofs.stretches.left.Tie as tie
 

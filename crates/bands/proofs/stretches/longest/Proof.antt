@@ -6,8 +6,8 @@ use mathlib.Core.Path.{_≡_, refl, sym, ap, _∙_}
 use native.Mathlib.Omega.{arith}
 use lib.ListN.{getD}
 use borrow.Author.Needs.{needs}
-use Rattle.circle.proofs.Over.{minBelow}
-use Rattle.circle.proofs.Longest.{left, longest-least}
+use Rattle.circle.proofs.Numbers.Over.{minBelow}
+use Rattle.circle.proofs.Stretches.{left, longest-least}
 use Rattle.bands.specs.Search.{seenBy}
 use Rattle.bands.proofs.SearchLaws.{least-lower, least-still, proper-seen, left-seen}
 use Rattle.bands.proofs.stretches.longest.Statement.{statement}

@@ -7,7 +7,7 @@ use lib.ListN.{length-set, length, drop}
 use Rattle.street.specs.Limits.{maxSignals}
 use Rattle.street.specs.Streets.{timedStreet}
 use Rattle.circle.specs.Over.{listBelow}
-use Rattle.circle.proofs.Over.{fill-store}
+use Rattle.circle.proofs.Numbers.{fill-store}
 use Rattle.plans.specs.Moved.{movedOffset}
 use Rattle.search.proofs.Pairs.{place-lt}
 use Rattle.plans.proofs.OffsetLaws.{ready-lt, side-small, offset-at-is}

@@ -3,8 +3,7 @@ use mathlib.Core.Path.{_≡_, _∙_}
 use mathlib.Core.Bool.{true, false}
 use native.Mathlib.Omega.{arith}
 use Rattle.circle.specs.Method.{Timed}
-use Rattle.circle.proofs.Raised.{Fit}
-use Rattle.circle.proofs.Moving.{green, green-is, green-le, asked-green, outside, within}
+use Rattle.circle.proofs.Formulas.{Fit, green, green-is, green-le, asked-green, outside, within}
 use Rattle.street.specs.Streets.{timedStreet}
 use Rattle.search.proofs.Leading.{fit-sound}
 use Rattle.plans.proofs.WidthLaws.{raised-is, check-is}

@@ -4,7 +4,7 @@ use Prim.Native.Nat.{ℕ}
 use native.Mathlib.Omega.{arith}
 use Rattle.street.specs.Streets.{timedStreet}
 use Rattle.circle.specs.Method.{equalWidth}
-use Rattle.circle.proofs.Moving.{equal-width}
+use Rattle.circle.proofs.Formulas.{equal-width}
 use Rattle.search.proofs.Leading.{fit-sound}
 use Rattle.plans.specs.Steps.{shiftWidth, widthsOf}
 use Rattle.plans.specs.declared.widths.Widths.{Widths}

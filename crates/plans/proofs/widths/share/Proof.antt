@@ -3,9 +3,7 @@ use Prim.Native.Nat.{ℕ, _-_, _*_, _/_, min}
 use mathlib.Core.Path.{_≡_, sym, ap, ap₂, _∙_}
 use native.Mathlib.Omega.{arith}
 use Rattle.circle.specs.Method.{Timed, halves}
-use Rattle.circle.proofs.Raised.{Fit, B⁺}
-use Rattle.circle.proofs.Moving.{green, green-is}
-use Rattle.circle.proofs.Platoons.{platoons-fit, platoons-crowd, platoons-rest}
+use Rattle.circle.proofs.Formulas.{Fit, B⁺, green, green-is, platoons-fit, platoons-crowd, platoons-rest}
 use Rattle.street.specs.Streets.{timedStreet}
 use Rattle.search.proofs.Leading.{fit-sound}
 use Rattle.plans.proofs.WidthLaws.{raised-is, product-fits}

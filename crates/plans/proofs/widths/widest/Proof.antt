@@ -7,8 +7,7 @@ use lib.ListN.{getD}
 use Rattle.circle.specs.Signed.{minℤ}
 use Rattle.circle.specs.Over.{leastBelow}
 use Rattle.circle.specs.Moved.{g}
-use Rattle.circle.proofs.Signed.{pos-less, pos-min}
-use Rattle.circle.proofs.Over.{least-more}
+use Rattle.circle.proofs.Numbers.{pos-less, pos-min, least-more}
 use Rattle.street.specs.declared.Street.{Street}
 use borrow.Author.Needs.{needs}
 use Rattle.plans.proofs.widths.widest.Statement.{statement}

@@ -8,7 +8,7 @@ use native.Mathlib.Omega.{arith}
 use lib.ListN.{length, drop, replicate}
 use borrow.Author.Needs.{needs}
 use Rattle.circle.specs.Over.{sumBelow, countBelow, listBelow}
-use Rattle.circle.proofs.Over.{fill-store}
+use Rattle.circle.proofs.Numbers.{fill-store}
 use Rattle.street.specs.Limits.{maxSignals, maxTime}
 use Rattle.street.specs.Times.{linkTicks, timeTo, roundedLink, Driveable}
 use Rattle.street.specs.Streets.{padded}

@@ -6,7 +6,7 @@ use native.Mathlib.Omega.{arith}
 use lib.ListN.{replicate, length, drop, getD}
 use borrow.Author.Needs.{needs}
 use Rattle.street.specs.Streets.{padded}
-use Rattle.circle.proofs.Over.{fill-store}
+use Rattle.circle.proofs.Numbers.{fill-store}
 use Rattle.circle.specs.Over.{listBelow}
 use Rattle.street.proofs.times.copied.Statement.{statement}
 use Rattle.street.proofs.times.copied.Tie as tie

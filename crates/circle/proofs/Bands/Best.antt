@@ -7,13 +7,13 @@ use native.Mathlib.Omega.{arith}
 use Rattle.circle.specs.Method.{Timed, halves, reference, equalWidth, redEnd, redStart}
 use Rattle.circle.specs.Bands.{Way, outboundWay, inboundWay}
 use Rattle.circle.specs.Moved.{otherWidth}
-use Rattle.circle.proofs.Raised.{Fit, B⁺}
-use Rattle.circle.proofs.Arcs.{Passes, where-some}
-use Rattle.circle.proofs.Since.{Rising}
-use Rattle.circle.proofs.Bound.{Bounded}
-use Rattle.circle.proofs.Reflection.{Patterned, likes}
-use Rattle.circle.proofs.Moving.{equal-width, other-width}
-use Rattle.circle.proofs.Named.{Bands, meets}
+use Rattle.circle.proofs.Formulas.Raised.{Fit, B⁺}
+use Rattle.circle.proofs.Stretches.Arcs.{Passes, where-some}
+use Rattle.circle.proofs.Stretches.Since.{Rising}
+use Rattle.circle.proofs.Bands.Bound.{Bounded}
+use Rattle.circle.proofs.Stretches.Reflection.{Patterned, likes}
+use Rattle.circle.proofs.Formulas.Moving.{equal-width, other-width}
+use Rattle.circle.proofs.Bands.Names.{Bands, meets}
 
 -- k departures pass from some instant on, and never more
 pub record Widest (w : Way) (k : ℕ) : Type 0 where

@@ -11,11 +11,11 @@ use borrow.Author.Tests.{le-leb, lt-leb}
 use Rattle.circle.specs.Signed.{leℤ}
 use Rattle.circle.specs.Man.{man}
 use Rattle.circle.specs.Method.{Timed, halves, u, pairWidth, reference, phase, offset}
-use Rattle.circle.proofs.Signed.{le-sub}
-use Rattle.circle.proofs.Man.{Turns, man-lt, man-turns}
-use Rattle.circle.proofs.Over.{maxBelow, min-at, max-ge}
-use Rattle.circle.proofs.Method.{u-is, u-range, raised-width, offset-is}
-use Rattle.circle.proofs.Raised.{Fit, raised, larger-raised, b⁺, low, reference-is}
+use Rattle.circle.proofs.Numbers.Signed.{le-sub}
+use Rattle.circle.proofs.Numbers.Man.{Turns, man-lt, man-turns}
+use Rattle.circle.proofs.Numbers.Over.{maxBelow, min-at, max-ge}
+use Rattle.circle.proofs.Formulas.Method.{u-is, u-range, raised-width, offset-is}
+use Rattle.circle.proofs.Formulas.Raised.{Fit, raised, larger-raised, b⁺, low, reference-is}
 
 -- the first index that attains the greatest
 pub record First (n : ℕ) (g : ℕ → ℕ) (c : ℕ) : Type 0 where

@@ -10,9 +10,9 @@ use Rattle.circle.specs.Signed.{leℤ, eqℤ, maxℤ, orZero}
 use Rattle.circle.specs.Over.{firstBelow, leastBelow, greatestBelow, indexOf}
 use Rattle.circle.specs.Man.{man}
 use Rattle.circle.specs.Method.{Timed, halves, t, t′, u, pairWidth, b, B, reference, phase, offset, equalWidth, redEnd, redStart}
-use Rattle.circle.proofs.Signed.{sub-eq, pos-sub, pos-minus, add-sub, minus-sub}
-use Rattle.circle.proofs.Man.{Turns, man-lt, man-unique, man-turns, man-turns-twice}
-use Rattle.circle.proofs.Over.{first-ext, first-lt, least-ext, greatest-ext}
+use Rattle.circle.proofs.Numbers.Signed.{sub-eq, pos-sub, pos-minus, add-sub, minus-sub}
+use Rattle.circle.proofs.Numbers.Man.{Turns, man-lt, man-unique, man-turns, man-turns-twice}
+use Rattle.circle.proofs.Numbers.Over.{first-ext, first-lt, least-ext, greatest-ext}
 
 -- u's argument as one difference
 u-argument : (s : Timed) (i j e : ℕ) → pos (s .red i) -ℤ pos (s .red j) +ℤ t s i j -ℤ t′ s i j -ℤ pos e ≡ subℕ (s .red i + s .outbound j + s .inbound j) (s .red j + s .outbound i + s .inbound i + e)

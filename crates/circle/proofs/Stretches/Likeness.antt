@@ -11,10 +11,10 @@ use Rattle.circle.specs.Man.{man}
 use Rattle.circle.specs.Over.{firstBelow, indexOf}
 use Rattle.circle.specs.Method.{Timed}
 use Rattle.circle.specs.Bands.{Way, allBelow, someBelow, greatestUpTo, clear, stretch, width, bandStart, outboundWay, inboundWay}
-use Rattle.circle.proofs.Over.{first-ext}
-use Rattle.circle.proofs.Method.{Agree, redStart-agree}
-use Rattle.circle.proofs.Since.{along}
-use Rattle.circle.proofs.Tests.{all-ext, greatestUpTo-ext}
+use Rattle.circle.proofs.Numbers.Over.{first-ext}
+use Rattle.circle.proofs.Formulas.Method.{Agree, redStart-agree}
+use Rattle.circle.proofs.Stretches.Since.{along}
+use Rattle.circle.proofs.Numbers.Tests.{all-ext, greatestUpTo-ext}
 
 -- how far past the start of signal j's red the departure at x comes by, round the cycle
 abbrev pub past : Way → ℕ → ℕ → ℕ

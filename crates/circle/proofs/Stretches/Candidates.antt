@@ -7,9 +7,9 @@ use mathlib.Core.Logic.{_⊎_, ⊎-elim}
 use native.Mathlib.Omega.{arith}
 use native.Mathlib.Nat.{eq-or-lt-of-le}
 use Rattle.circle.specs.Bands.{Way, width, bandStart}
-use Rattle.circle.proofs.Arcs.{Passes}
-use Rattle.circle.proofs.Stretches.{Proper, width-ge, width-le, band-starts, start-none}
-use Rattle.circle.proofs.Longest.{longest, longest-passes, longest-ge, longest-width, starts-ending, endAt, end-lt, end-is}
+use Rattle.circle.proofs.Stretches.Arcs.{Passes}
+use Rattle.circle.proofs.Stretches.Clear.{Proper, width-ge, width-le, band-starts, start-none}
+use Rattle.circle.proofs.Stretches.Longest.{longest, longest-passes, longest-ge, longest-width, starts-ending, endAt, end-lt, end-is}
 
 -- the longest stretch from a candidate's start
 abbrev pub from : Way → ℕ → ℕ

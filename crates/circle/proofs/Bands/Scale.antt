@@ -11,15 +11,15 @@ use Rattle.circle.specs.Man.{man}
 use Rattle.circle.specs.Method.{Timed, halves, u, b, equalWidth, redStart}
 use Rattle.circle.specs.Bands.{Way, outboundWay, inboundWay}
 use Rattle.circle.specs.Moved.{otherWidth}
-use Rattle.circle.proofs.Man.{Turns, man-lt, man-is, man-turns}
-use Rattle.circle.proofs.Over.{minBelow, maxBelow}
-use Rattle.circle.proofs.Method.{u-is, u-range}
-use Rattle.circle.proofs.Raised.{Fit, raised, larger-raised, b⁺, low, B⁺}
-use Rattle.circle.proofs.Arcs.{since, Passes}
-use Rattle.circle.proofs.Since.{along, Stops, Rising, since-turns, passes-at}
-use Rattle.circle.proofs.Reference.{u-turns}
-use Rattle.circle.proofs.Moving.{equal-width, other-width}
-use Rattle.circle.proofs.Reflection.{Patterned}
+use Rattle.circle.proofs.Numbers.Man.{Turns, man-lt, man-is, man-turns}
+use Rattle.circle.proofs.Numbers.Over.{minBelow, maxBelow}
+use Rattle.circle.proofs.Formulas.Method.{u-is, u-range}
+use Rattle.circle.proofs.Formulas.Raised.{Fit, raised, larger-raised, b⁺, low, B⁺}
+use Rattle.circle.proofs.Stretches.Arcs.{since, Passes}
+use Rattle.circle.proofs.Stretches.Since.{along, Stops, Rising, since-turns, passes-at}
+use Rattle.circle.proofs.Formulas.Reference.{u-turns}
+use Rattle.circle.proofs.Formulas.Moving.{equal-width, other-width}
+use Rattle.circle.proofs.Stretches.Reflection.{Patterned}
 pub use Rattle.circle.specs.Method.{inUnits as scaled}
 
 -- turns in the finer unit

@@ -6,10 +6,10 @@ use mathlib.Core.Bool.{true}
 use native.Mathlib.Omega.{arith}
 use Rattle.circle.specs.Method.{Timed, reference, offset, equalWidth}
 use Rattle.circle.specs.Moved.{inRange, outboundLowering, inboundLowering, lowered, otherWidth}
-use Rattle.circle.proofs.Raised.{Fit}
-use Rattle.circle.proofs.Since.{Rising}
-use Rattle.circle.proofs.Named.{Bands, Room, bands}
-use Rattle.circle.proofs.Moving.{Asked, asked, chosen-range, chosen-leaves, outbound-lowering, inbound-lowering, equal-width, other-width, lowered-turns, outbound-lowering-own, inbound-lowering-own}
+use Rattle.circle.proofs.Formulas.Raised.{Fit}
+use Rattle.circle.proofs.Stretches.Since.{Rising}
+use Rattle.circle.proofs.Bands.Names.{Bands, Room, bands}
+use Rattle.circle.proofs.Formulas.Moving.{Asked, asked, chosen-range, chosen-leaves, outbound-lowering, inbound-lowering, equal-width, other-width, lowered-turns, outbound-lowering-own, inbound-lowering-own}
 
 module _ (s : Timed) (fit : Fit s) (rising : Rising s) where
   pub equal-bands : Bands s (offset s (reference s)) (equalWidth s) (equalWidth s)

@@ -9,13 +9,13 @@ use Rattle.circle.specs.Man.{man}
 use Rattle.circle.specs.Method.{Timed, halves, reference, phase, offset, redEnd, redStart}
 use Rattle.circle.specs.Bands.{Way, outboundWay, inboundWay}
 use Rattle.circle.specs.Moved.{chosen}
-use Rattle.circle.proofs.Man.{Turns, man-lt, man-turns}
-use Rattle.circle.proofs.Raised.{Fit}
-use Rattle.circle.proofs.Arcs.{since, Passes}
-use Rattle.circle.proofs.Since.{Rising, since-is, start-turns, end-turns}
-use Rattle.circle.proofs.Reflection.{twice, offset-patterned}
-use Rattle.circle.proofs.Reference.{reference-first, offset-own}
-use Rattle.circle.proofs.Moving.{chosen-range, chosen-turns}
+use Rattle.circle.proofs.Numbers.Man.{Turns, man-lt, man-turns}
+use Rattle.circle.proofs.Formulas.Raised.{Fit}
+use Rattle.circle.proofs.Stretches.Arcs.{since, Passes}
+use Rattle.circle.proofs.Stretches.Since.{Rising, since-is, start-turns, end-turns}
+use Rattle.circle.proofs.Stretches.Reflection.{twice, offset-patterned}
+use Rattle.circle.proofs.Formulas.Reference.{reference-first, offset-own}
+use Rattle.circle.proofs.Formulas.Moving.{chosen-range, chosen-turns}
 
 -- the instant at which a departure a later than x comes by the signal c
 abbrev pub Meets : Way → ℕ → ℕ → ℕ → ℕ → Type 0

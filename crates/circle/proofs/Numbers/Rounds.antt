@@ -6,7 +6,7 @@ use native.Mathlib.Omega.{arith}
 use native.Mathlib.Nat.{mod-lt, mod-add-div'}
 use lib.IntN.{pos, _-ℤ_}
 use Rattle.circle.specs.Man.{man}
-use Rattle.circle.proofs.Man.{man-is}
+use Rattle.circle.proofs.Numbers.Man.{man-is}
 
 pub remainder-man : (h a b : ℕ) → 1 ≤ h → (a + (h - b % h)) % h ≡ man h (pos a -ℤ pos b)
 remainder-man h a b some =

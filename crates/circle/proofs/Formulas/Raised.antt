@@ -7,9 +7,9 @@ use lib.IntN.{subℕ}
 use Rattle.circle.specs.Signed.{eqℤ, maxℤ}
 use Rattle.circle.specs.Over.{indexOf}
 use Rattle.circle.specs.Method.{Timed, halves, u, pairWidth, b, B, reference}
-use Rattle.circle.proofs.Signed.{max-sub, ne-sub, eqℤ-refl}
-use Rattle.circle.proofs.Over.{minBelow, min-le, maxBelow, least-raised, greatest-raised, first-at}
-use Rattle.circle.proofs.Method.{u-range, raised-width}
+use Rattle.circle.proofs.Numbers.Signed.{max-sub, ne-sub, eqℤ-refl}
+use Rattle.circle.proofs.Numbers.Over.{minBelow, min-le, maxBelow, least-raised, greatest-raised, first-at}
+use Rattle.circle.proofs.Formulas.Method.{u-range, raised-width}
 
 -- what the method needs of a street's numbers: a signal, and every red shorter than the cycle
 pub record Fit (s : Timed) : Type 0 where

@@ -7,9 +7,9 @@ use native.Mathlib.Omega.{arith}
 use lib.IntN.{pos, _-ℤ_}
 use Rattle.circle.specs.Man.{man}
 use Rattle.circle.specs.Bands.{Way}
-use Rattle.circle.proofs.Man.{Turns, man-turns}
-use Rattle.circle.proofs.Arcs.{since, Passes}
-use Rattle.circle.proofs.Since.{along, since-turns, passes-at}
+use Rattle.circle.proofs.Numbers.Man.{Turns, man-turns}
+use Rattle.circle.proofs.Stretches.Arcs.{since, Passes}
+use Rattle.circle.proofs.Stretches.Since.{along, since-turns, passes-at}
 
 -- signal j's red in z, seen from the departure, starts `inside` past the start of its red in w moved by a - δ, and ends no later than that red's end so moved
 pub record Moved (w z : Way) (a m j : ℕ) : Type 0 where

@@ -13,13 +13,13 @@ use borrow.Author.Tests.{le-leb}
 use Rattle.circle.specs.Signed.{leℤ}
 use Rattle.circle.specs.Method.{Timed, halves, B}
 use Rattle.circle.specs.Bands.{outboundWay, inboundWay}
-use Rattle.circle.proofs.Signed.{sub-eq, pos-sub, add-sub, le-sub}
-use Rattle.circle.proofs.Man.{Turns}
-use Rattle.circle.proofs.Over.{min-from, max-ge}
-use Rattle.circle.proofs.Method.{u-is}
-use Rattle.circle.proofs.Raised.{Fit, raised, larger-raised, top, b⁺, B⁺, B-raised}
-use Rattle.circle.proofs.Arcs.{since, Passes}
-use Rattle.circle.proofs.Since.{Stops, Rising, since-turns}
+use Rattle.circle.proofs.Numbers.Signed.{sub-eq, pos-sub, add-sub, le-sub}
+use Rattle.circle.proofs.Numbers.Man.{Turns}
+use Rattle.circle.proofs.Numbers.Over.{min-from, max-ge}
+use Rattle.circle.proofs.Formulas.Method.{u-is}
+use Rattle.circle.proofs.Formulas.Raised.{Fit, raised, larger-raised, top, b⁺, B⁺, B-raised}
+use Rattle.circle.proofs.Stretches.Arcs.{since, Passes}
+use Rattle.circle.proofs.Stretches.Since.{Stops, Rising, since-turns}
 
 -- among the indices below n where g is above 0, one with the least f
 pub record Least (n : ℕ) (g f : ℕ → ℕ) : Type 0 where

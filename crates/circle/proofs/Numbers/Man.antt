@@ -6,7 +6,7 @@ use native.Mathlib.Omega.{arith}
 use native.Mathlib.Nat.{mod-lt, mod-add-div', add-mul-mod-self-right, mod-eq-of-lt}
 use lib.IntN.{ℤ, pos, negsuc, subℕ, _-ℤ_}
 use Rattle.circle.specs.Man.{man}
-use Rattle.circle.proofs.Signed.{up, down, up-down, sub-eq, pos-sub, pos-minus, minus-sub}
+use Rattle.circle.proofs.Numbers.Signed.{up, down, up-down, sub-eq, pos-sub, pos-minus, minus-sub}
 
 pub man-lt : (H : ℕ) (z : ℤ) → 0 < H → man H z < H
 man-lt H (pos a) h = mod-lt a h

@@ -6,9 +6,9 @@ use native.Mathlib.Omega.{arith}
 use Rattle.circle.specs.Man.{man}
 use Rattle.circle.specs.Method.{Timed, halves, redEnd, redStart}
 use Rattle.circle.specs.Bands.{Way}
-use Rattle.circle.proofs.Signed.{pos-sub}
-use Rattle.circle.proofs.Man.{Turns, man-back, man-is, man-turns}
-use Rattle.circle.proofs.Arcs.{since}
+use Rattle.circle.proofs.Numbers.Signed.{pos-sub}
+use Rattle.circle.proofs.Numbers.Man.{Turns, man-back, man-is, man-turns}
+use Rattle.circle.proofs.Stretches.Arcs.{since}
 
 -- the same signals under other lags
 abbrev pub along : Way → (ℕ → ℕ) → Way

@@ -13,11 +13,11 @@ use lib.Dec.{ltb}
 use borrow.Author.Tests.{lt-ltb, le-ltb}
 use Rattle.circle.specs.Man.{man}
 use Rattle.circle.specs.Bands.{Way, greatestUpTo, stretch, width}
-use Rattle.circle.proofs.Man.{man-lt, man-is, man-turns}
-use Rattle.circle.proofs.Over.{minBelow, min-le, min-at, min-from}
-use Rattle.circle.proofs.Arcs.{since, Passes}
-use Rattle.circle.proofs.Tests.{greatest-le, greatest-passes, greatest-ge, greatest-is}
-use Rattle.circle.proofs.Stretches.{Proper, passes-stretch, stretch-passes, width-ge}
+use Rattle.circle.proofs.Numbers.Man.{man-lt, man-is, man-turns}
+use Rattle.circle.proofs.Numbers.Over.{minBelow, min-le, min-at, min-from}
+use Rattle.circle.proofs.Stretches.Arcs.{since, Passes}
+use Rattle.circle.proofs.Numbers.Tests.{greatest-le, greatest-passes, greatest-ge, greatest-is}
+use Rattle.circle.proofs.Stretches.Clear.{Proper, passes-stretch, stretch-passes, width-ge}
 
 -- the length of the longest stretch from an instant
 abbrev pub longest : Way → ℕ → ℕ

@@ -11,12 +11,12 @@ use borrow.Author.Tests.{le-leb, leb-true}
 use Rattle.circle.specs.Signed.{leℤ, maxℤ, orZero}
 use Rattle.circle.specs.Method.{Timed, halves, B, reference, phase, offset, equalWidth}
 use Rattle.circle.specs.Moved.{g, inRange, chosen, outboundLowering, inboundLowering, lowered, otherWidth}
-use Rattle.circle.proofs.Signed.{sub-eq, pos-sub, pos-minus, pos-less, add-sub, minus-sub, sub-injective, le-sub, max-sub, orZero-sub}
-use Rattle.circle.proofs.Man.{Turns, man-turns}
-use Rattle.circle.proofs.Over.{minBelow, maxBelow, min-le, min-at, min-from, least-raised}
-use Rattle.circle.proofs.Method.{u-is, u-range}
-use Rattle.circle.proofs.Raised.{Fit, b⁺, B⁺, B-raised, low}
-use Rattle.circle.proofs.Reference.{reference-first, u-turns, leaves, phase-own}
+use Rattle.circle.proofs.Numbers.Signed.{sub-eq, pos-sub, pos-minus, pos-less, add-sub, minus-sub, sub-injective, le-sub, max-sub, orZero-sub}
+use Rattle.circle.proofs.Numbers.Man.{Turns, man-turns}
+use Rattle.circle.proofs.Numbers.Over.{minBelow, maxBelow, min-le, min-at, min-from, least-raised}
+use Rattle.circle.proofs.Formulas.Method.{u-is, u-range}
+use Rattle.circle.proofs.Formulas.Raised.{Fit, b⁺, B⁺, B-raised, low}
+use Rattle.circle.proofs.Formulas.Reference.{reference-first, u-turns, leaves, phase-own}
 
 -- g: the shortest green
 abbrev pub green : Timed → ℕ

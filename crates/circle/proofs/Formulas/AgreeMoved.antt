@@ -9,8 +9,8 @@ use Rattle.circle.specs.Signed.{leℤ, maxℤ, orZero}
 use Rattle.circle.specs.Over.{leastBelow}
 use Rattle.circle.specs.Method.{Timed, halves, u, reference, phase, offset}
 use Rattle.circle.specs.Moved.{g, inRange, chosen, outboundLowering, inboundLowering, lowered, otherWidth, platoonWidth}
-use Rattle.circle.proofs.Over.{least-ext}
-use Rattle.circle.proofs.Method.{Agree, B-agree, reference-agree, reference-lt, offset-agree, u-agree, phase-agree}
+use Rattle.circle.proofs.Numbers.Over.{least-ext}
+use Rattle.circle.proofs.Formulas.Method.{Agree, B-agree, reference-agree, reference-lt, offset-agree, u-agree, phase-agree}
 
 module _ (s z : Timed) (agree : Agree s z) where
   pub g-agree : g s ≡ g z

@@ -13,7 +13,7 @@ use lib.ListN.{length, length-append, getD, set, drop}
 use lib.Seq.{set-at, drop-cons, getD-at, append-snoc}
 use Rattle.circle.specs.Signed.{minℤ, maxℤ}
 use Rattle.circle.specs.Over.{Found, nowhere, at, orElse, firstBelow, sumBelow, leastBelow, greatestBelow, listBelow, indexOf}
-use Rattle.circle.proofs.Signed.{min-sub, max-sub}
+use Rattle.circle.proofs.Numbers.Signed.{min-sub, max-sub}
 
 -- a search comes to nothing where no index passes
 pub first-nowhere : (n : ℕ) (test : ℕ → Bool) → ((k : ℕ) → k < n → test k ≡ false) → firstBelow n test ≡ nowhere

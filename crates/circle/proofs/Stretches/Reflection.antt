@@ -12,10 +12,10 @@ use Rattle.circle.specs.Signed.{leℤ}
 use Rattle.circle.specs.Man.{man}
 use Rattle.circle.specs.Method.{Timed, halves, t, t′, pairWidth, phase, offset}
 use Rattle.circle.specs.Bands.{Way, outboundWay, inboundWay}
-use Rattle.circle.proofs.Signed.{sub-eq, pos-sub, pos-minus, add-sub}
-use Rattle.circle.proofs.Man.{Turns, man-lt, man-back, man-turns}
-use Rattle.circle.proofs.Arcs.{since, Passes}
-use Rattle.circle.proofs.Since.{along, Rising, since-turns, passes-at, start-turns}
+use Rattle.circle.proofs.Numbers.Signed.{sub-eq, pos-sub, pos-minus, add-sub}
+use Rattle.circle.proofs.Numbers.Man.{Turns, man-lt, man-back, man-turns}
+use Rattle.circle.proofs.Stretches.Arcs.{since, Passes}
+use Rattle.circle.proofs.Stretches.Since.{along, Rising, since-turns, passes-at, start-turns}
 
 -- two lists of lags through the reds of one way that mirror each other about the constant a
 pub record Mirror (w : Way) (d d′ : ℕ → ℕ) (a : ℕ) : Type 0 where

@@ -9,7 +9,7 @@ use native.Mathlib.Nat.{eq-or-lt-of-le, le-of-suc-le-suc}
 use borrow.Author.Tests.{not-true, not-false}
 use Rattle.circle.specs.Over.{Found, nowhere, at, orElse, firstBelow, indexOf}
 use Rattle.circle.specs.Bands.{allBelow, someBelow, greatestUpTo}
-use Rattle.circle.proofs.Over.{first-none}
+use Rattle.circle.proofs.Numbers.Over.{first-none}
 
 pub true-false : _≡_ {A = Bool} true false → ⊥
 true-false e = let z : _≡_ {A = ℕ} 0 1 = cc in omega arith

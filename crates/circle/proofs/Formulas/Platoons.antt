@@ -13,9 +13,9 @@ use borrow.Author.Tests.{le-leb, lt-leb, leb-true, eq-eqb, ne-eqb}
 use Rattle.circle.specs.Signed.{leℤ, orZero}
 use Rattle.circle.specs.Method.{Timed, halves, B}
 use Rattle.circle.specs.Moved.{g, inRange, otherWidth, platoonWidth}
-use Rattle.circle.proofs.Signed.{le-sub, orZero-sub}
-use Rattle.circle.proofs.Raised.{Fit, B-raised, B⁺}
-use Rattle.circle.proofs.Moving.{green, raise, within, green-some, B-green, g-is, double, other-width}
+use Rattle.circle.proofs.Numbers.Signed.{le-sub, orZero-sub}
+use Rattle.circle.proofs.Formulas.Raised.{Fit, B-raised, B⁺}
+use Rattle.circle.proofs.Formulas.Moving.{green, raise, within, green-some, B-green, g-is, double, other-width}
 
 -- a share of twice b, for at least half of the sum, is at least b
 share : (b D L T : ℕ) → D ≡ 2 * b → 0 < T → T ≤ 2 * L → b ≤ D * L / T

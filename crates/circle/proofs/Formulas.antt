@@ -1,0 +1,14 @@
+-- Laws of the method's formulas, and here those that other crates cite: B and each width raised by the cycle, so that they are naturals; the reference; the range of a request, the
+-- lowerings and the platoon rule; and that all of it goes by the signals alone.
+pub use Rattle.circle.proofs.Formulas.Method.{Agree, B-agree, equalWidth-agree, offset-lt, redEnd-agree, redStart-agree, reference-agree, reference-lt, u-reduced}
+pub use Rattle.circle.proofs.Formulas.Raised.{B-raised, B⁺, Fit, b⁺, b⁺-le, larger-raised, raised, reference-is, top}
+pub use Rattle.circle.proofs.Formulas.Reference.{phase-test, reference-first}
+pub use Rattle.circle.proofs.Formulas.Moving.{B⁺-is, asked, asked-green, equal-width, g-is, green, green-is, green-le, inbound-lowering, other-width, outbound-lowering, outside, within}
+pub use Rattle.circle.proofs.Formulas.Platoons.{platoon-le, platoons-crowd, platoons-fit, platoons-range, platoons-rest}
+pub use Rattle.circle.proofs.Formulas.AgreeMoved.{inRange-agree, inboundLowering-agree, lowered-agree, otherWidth-agree, outboundLowering-agree, platoonWidth-agree}
+pub mod Method
+pub mod Raised
+pub mod Reference
+pub mod Moving
+pub mod Platoons
+pub mod AgreeMoved
