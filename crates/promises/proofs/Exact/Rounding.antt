@@ -22,8 +22,8 @@ use Rattle.street.specs.Times.{m, timed}
 use Rattle.street.specs.declared.Verdict.the-variants.{Passed}
 use Rattle.promises.specs.Exact.{Fine, exactOutbound, exactInbound}
 use Rattle.promises.specs.Rounding.{NoneBeats, Short, NamedClear, OutboundClear, InboundClear, NoOffsetsBeat, NoHalvesBeat, FallsShort, NamedBandsClear}
-use Rattle.promises.proofs.Directions.{fit, bounded-fine, rising, outwards, inwards}
-use Rattle.promises.proofs.Stretched.{leaves, named-short, named-inside}
+use Rattle.promises.proofs.Streets.Directions.{fit, bounded-fine, rising, outwards, inwards}
+use Rattle.promises.proofs.Measured.Stretched.{leaves, named-short, named-inside}
 
 module _ (l : Lists) (room : ℕ) (passed : planChecks l room ≡ Passed) (N : ℕ) (fine : Fine l N) where
   -- two stretches at rounded times in the fine unit never exceed 2B together, whatever the offsets

@@ -15,8 +15,8 @@ use Rattle.street.specs.declared.Verdict.the-variants.{Passed}
 use Rattle.street.proofs.Passed.{clear}
 use Rattle.street.proofs.Nearest.{link-near, out-marked, back-marked}
 use Rattle.promises.specs.Exact.{Fine, exactLink, exactTo}
-use Rattle.promises.proofs.Windows.{Window, from-first, to-last}
-pub use Rattle.promises.proofs.Streets.{fit, bounded, bounded-fine, rising}
+use Rattle.promises.proofs.Streets.Windows.{Window, from-first, to-last}
+pub use Rattle.promises.proofs.Streets.Passing.{fit, bounded, bounded-fine, rising}
 
 -- the way through a street at rounded times, counted in the fine unit, under offsets f
 abbrev pub countedWay : Lists → ℕ → (ℕ → ℕ) → (ℕ → ℕ) → Way

@@ -11,7 +11,7 @@ use Rattle.circle.specs.Bands.{allBelow, greatestUpTo, clear, stretch, width}
 use Rattle.street.specs.Checks.{countCheck, roomCheck, cycleCheck, redCheck, distanceCheck, speedCheck, planChecks}
 use Rattle.promises.specs.Exact.{Fine}
 use Rattle.promises.specs.Tight.{pair, WiderByM, ShortByM, RedWithinM, RowNine}
-use Rattle.promises.proofs.Rounding.{no-offsets-beat}
+use Rattle.promises.proofs.Exact.Rounding.{no-offsets-beat}
 
 -- the one link of a pair
 fine-pair : (red red′ at at′ speed N : ℕ) → 0 < N → 20 * (at′ - at) * N % speed ≡ 0 → Fine (pair red red′ at at′ speed) N

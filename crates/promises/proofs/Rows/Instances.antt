@@ -9,11 +9,11 @@ use Rattle.street.specs.Lists.{Lists}
 use Rattle.street.specs.Checks.{countCheck, roomCheck, cycleCheck, redCheck, distanceCheck, speedCheck, planChecks}
 use Rattle.street.specs.Times.{timed}
 use Rattle.street.specs.declared.Verdict.the-variants.{Passed}
-use Rattle.promises.proofs.Rounded.{measured}
+use Rattle.promises.proofs.Rounded.Equal.{measured}
 use Rattle.promises.specs.Rows.{pair, streetA}
 
 -- both bands of a street's equal plan have a width
-BothWide : Lists → ℕ → Type 0
+pub BothWide : Lists → ℕ → Type 0
 BothWide l v =
     let s = timed l in
     let f = offset s (reference s) in
@@ -23,7 +23,7 @@ from-measured : (l : Lists) (v : ℕ) → planChecks l 32 ≡ Passed → equalWi
 unfolding BothWide
 from-measured l v passed e = let m = measured l 32 passed in (m .0 ∙ e, m .1 ∙ e)
 
-instances : BothWide (pair 600 300 30000) 600 × BothWide (pair 600 300 15000) 300 × BothWide streetA 60
+pub instances : BothWide (pair 600 300 30000) 600 × BothWide (pair 600 300 15000) 300 × BothWide streetA 60
 unfolding pair streetA firstBelow sumBelow leastBelow greatestBelow u pairWidth b B equalWidth countCheck roomCheck cycleCheck redCheck distanceCheck speedCheck planChecks
 instances =
     (from-measured (pair 600 300 30000) 600 refl refl, from-measured (pair 600 300 15000) 300 refl refl, from-measured streetA 60 refl refl)

@@ -21,10 +21,10 @@ use Rattle.plans.specs.declared.widths.Shift.{Shift}
 use Rattle.plans.specs.declared.widths.Shift.the-variants.{Unmoved, Outbound, Inbound}
 use Rattle.promises.specs.Rounded.{OnStreets}
 use Rattle.promises.specs.Moved.{InRange, PlatoonsInRange, Firm, MovedClear, MovedMeasured, AsWideAsReported, NoneBesides}
-use Rattle.promises.proofs.Streets.{fit, bounded, bounded-fine, rising}
-use Rattle.promises.proofs.Widths.{proper-way, width-passes, NoneLonger, bands-least, bands-measured}
-use Rattle.promises.proofs.Agreed.{bands-same, pattern-same}
-use Rattle.promises.proofs.Rounded.{bands-clear}
+use Rattle.promises.proofs.Streets.Passing.{fit, bounded, bounded-fine, rising}
+use Rattle.promises.proofs.Measured.Widths.{proper-way, width-passes, NoneLonger, bands-least, bands-measured}
+use Rattle.promises.proofs.Measured.Agreed.{bands-same, pattern-same}
+use Rattle.promises.proofs.Rounded.Equal.{bands-clear}
 
 -- offsets g that are a plan's at every signal
 abbrev pub Follows : Timed → Shift → (ℕ → ℕ) → Type 0

@@ -8,11 +8,11 @@ use Rattle.circle.proofs.Formulas.{reference-lt}
 use Rattle.street.specs.Times.{timed}
 use Rattle.plans.specs.Moved.{shiftOf, movedOffset, outboundWidth, inboundWidth}
 use Rattle.promises.specs.Replies.{BandsKept, ReplyBands}
-use Rattle.promises.proofs.Streets.{fit, bounded, rising}
-use Rattle.promises.proofs.Widths.{bands-least, bands-measured}
-use Rattle.promises.proofs.Rounded.{bands-clear}
-use Rattle.promises.proofs.Moved.{moved-bands, firm-most}
-use Rattle.promises.proofs.Replies.{reply-told, counted}
+use Rattle.promises.proofs.Streets.Passing.{fit, bounded, rising}
+use Rattle.promises.proofs.Measured.Widths.{bands-least, bands-measured}
+use Rattle.promises.proofs.Rounded.Equal.{bands-clear}
+use Rattle.promises.proofs.Rounded.Moved.{moved-bands, firm-most}
+use Rattle.promises.proofs.Replies.Calls.{reply-told, counted}
 
 pub reply-bands : ReplyBands
 reply-bands asked l entry exit r call code =

@@ -17,9 +17,9 @@ use Rattle.street.specs.Times.{m, timed}
 use Rattle.street.specs.declared.Verdict.the-variants.{Passed}
 use Rattle.promises.specs.Exact.{Fine, exactOutbound, exactInbound}
 use Rattle.promises.specs.Rounding.{Exactly, EqualExact, MovedExact}
-use Rattle.promises.proofs.Directions.{fit, bounded-fine, rising, fit-fine, rising-fine, outwards, inwards}
-use Rattle.promises.proofs.Stretched.{whole, named-exact}
-use Rattle.promises.proofs.Rounding.{beats, falls}
+use Rattle.promises.proofs.Streets.Directions.{fit, bounded-fine, rising, fit-fine, rising-fine, outwards, inwards}
+use Rattle.promises.proofs.Measured.Stretched.{whole, named-exact}
+use Rattle.promises.proofs.Exact.Rounding.{beats, falls}
 
 module _ (l : Lists) (room : ℕ) (passed : planChecks l room ≡ Passed) (N : ℕ) (fine : Fine l N) (none : m l ≡ 0) where
   nothing : N * m l ≡ 0

@@ -22,8 +22,8 @@ use Rattle.street.proofs.Passed.{enough-room}
 use Rattle.bands.specs.Measure.{badOffset, offsetCheck, measureChecks, measuredOf, foundOr, measurementOf, numbersOf}
 use Rattle.bands.proofs.CheckLaws.{checks-full}
 use Rattle.promises.specs.Rounded.{planOffsets, OwnMeasure}
-use Rattle.promises.proofs.Streets.{fit}
-use Rattle.promises.proofs.Rounded.{measured}
+use Rattle.promises.proofs.Streets.Passing.{fit}
+use Rattle.promises.proofs.Rounded.Equal.{measured}
 
 written : (l : Lists) (j : ℕ) → j < signals l → getD (planOffsets l) j 0 ≡ offset (timed l) (reference (timed l)) j
 written l j h =

@@ -20,7 +20,7 @@ use Rattle.street.specs.Times.{m, timed}
 use Rattle.street.specs.declared.Verdict.the-variants.{Passed}
 use Rattle.promises.specs.Exact.{Fine, exactWay}
 use Rattle.promises.specs.Rounding.{InsideClear, after}
-use Rattle.promises.proofs.Directions.{countedWay, Direction, fit}
+use Rattle.promises.proofs.Streets.Directions.{countedWay, Direction, fit}
 
 -- of k departures that pass each one is clear, and so is one that differs from it by whole turns
 turned : (w : Way) → Proper w → (x y i k : ℕ) → i < k → Turns (w .around) x (y + i) → Passes w y k → clear w x ≡ true
