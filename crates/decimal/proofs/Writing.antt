@@ -7,7 +7,7 @@ use native.Mathlib.Numerals.{add-one}
 use native.Mathlib.Omega.{arith}
 use mathlib.Core.Path.{_≡_, refl, sym, ap, ap₂, _∙_}
 use mathlib.Core.List.{List, [], _∷_, _++_, append-assoc, append-nil}
-use lib.ListN.{length, take, drop, set, length-append, length-drop, length-set, take-append-drop}
+use lib.ListN.{length, take, drop, set, length-append, length-drop, take-append-drop}
 use lib.Seq.{lt-length-set, length-take-le, take-at, drop-at, drop-drop, drop-cons, drop-set-lt, take-set-le, getD-set-same, append-snoc, set-split}
 use Rattle.decimal.specs.Writing.{overwritten, Writes}
 

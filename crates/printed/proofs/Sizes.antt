@@ -8,7 +8,7 @@ use lib.ListN.{length, getD, length-append}
 use Rattle.street.specs.Limits.{maxSignals}
 use Rattle.street.specs.Codes.{codeNumber}
 use Rattle.street.specs.declared.Refusal.{Refusal}
-use Rattle.decimal.specs.Decimal.{decimal, signedDecimal}
+use Rattle.decimal.specs.Decimal.{signedDecimal}
 use Rattle.decimal.proofs.Digits.{few, decimal-ten}
 use Rattle.plans.specs.declared.Plan.{Plan}
 use Rattle.plans.specs.declared.Answer.{Answer}

@@ -13,9 +13,9 @@ use Rattle.circle.specs.Method.{Timed, halves, B, reference, phase, offs
 use Rattle.circle.specs.Moved.{g, inRange, chosen, outboundLowering, inboundLowering, lowered, otherWidth}
 use Rattle.circle.proofs.Numbers.Signed.{sub-eq, pos-sub, pos-minus, pos-less, add-sub, minus-sub, sub-injective, le-sub, max-sub, orZero-sub}
 use Rattle.circle.proofs.Numbers.Man.{Turns, man-turns}
-use Rattle.circle.proofs.Numbers.Over.{minBelow, maxBelow, min-le, min-at, min-from, least-raised}
+use Rattle.circle.proofs.Numbers.Over.{minBelow, min-le, min-at, min-from, least-raised}
 use Rattle.circle.proofs.Formulas.Method.{u-is, u-range}
-use Rattle.circle.proofs.Formulas.Raised.{Fit, b⁺, B⁺, B-raised, low}
+use Rattle.circle.proofs.Formulas.Raised.{Fit, B⁺, B-raised, low}
 use Rattle.circle.proofs.Formulas.Reference.{reference-first, u-turns, leaves, phase-own}
 
 -- g: the shortest green

@@ -1,7 +1,7 @@
 -- What rounding costs. Two exact bands that are both wider than N times m leave stretches at rounded times, N times m narrower at most, and two such stretches together never exceed
 -- 2B, counted in the fine unit: so the narrower exact band is at most B and m. The other way, the equal plan's bands at rounded times leave exact ones that fall short by m at
 -- most; and of every plan's named bands all but m halves at each end is clear, counted at the reference. Assumes nothing.
-use Prim.Native.Nat.{ℕ, _+_, _-_, _*_, _≤_, _<_, min}
+use Prim.Native.Nat.{ℕ, _+_, _-_, _*_, _≤_, min}
 use mathlib.Core.Path.{_≡_}
 use mathlib.Core.Bool.{true}
 use native.Mathlib.Omega.{arith}
@@ -16,7 +16,7 @@ use Rattle.circle.proofs.Numbers.{man-turns}
 use Rattle.circle.proofs.Stretches.{Passes}
 use Rattle.circle.proofs.Formulas.{reference-first, B⁺, equal-width, platoons-range}
 use Rattle.circle.proofs.Bands.{Bands, equal-bands, outbound-bands, inbound-bands, scaled, greatest-scaled}
-use Rattle.street.specs.Lists.{Lists, signals}
+use Rattle.street.specs.Lists.{Lists}
 use Rattle.street.specs.Checks.{planChecks}
 use Rattle.street.specs.Times.{m, timed}
 use Rattle.street.specs.declared.Verdict.the-variants.{Passed}

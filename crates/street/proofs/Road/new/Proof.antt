@@ -1,7 +1,7 @@
 -- `street::Road::new` meets its contract. The loop's invariant: both sums are the times to the signal at `k`, m is counted over the links before it, and each array holds
 -- the times up to it. Assumes nothing.
 use Prim.Native.Nat.{ℕ, _+_, _-_, _≤_, _<_}
-use mathlib.Core.Path.{_≡_, refl, sym, ap, _∙_}
+use mathlib.Core.Path.{_≡_, refl, ap, _∙_}
 use mathlib.Core.Bool.{cond}
 use mathlib.Core.List.{List, _++_}
 use native.Mathlib.Omega.{arith}

@@ -1,7 +1,6 @@
 -- `street::Street::built` meets its contract: the checks that passed tell what each part requires, and the distances are as many as the signals. Assumes nothing.
 use Prim.Native.Nat.{ℕ}
 use mathlib.Core.Path.{_≡_, ap, _∙_}
-use native.Mathlib.Omega.{arith}
 use lib.ListN.{length}
 use Rattle.street.specs.Lists.{Lists, signals, typed}
 use Rattle.street.specs.Streets.{roadOf}
