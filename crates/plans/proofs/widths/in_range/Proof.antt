@@ -11,15 +11,15 @@ use borrow.Author.Needs.{needs}
 use Rattle.plans.proofs.widths.in_range.Statement.{statement}
 use Rattle.plans.proofs.widths.in_range.Tie as tie
 
--- the street's numbers once g is out, and g itself
-abbrev numbers : tie.After-widest → Timed
-numbers c = timedStreet (c .before .args .s)
+-- the street once g is out, and g itself
+abbrev street-of : tie.After-widest → Timed
+street-of c = timedStreet (c .before .args .s)
 
-fit : (c : tie.After-widest) → Fit (numbers c)
+fit : (c : tie.After-widest) → Fit (street-of c)
 fit c = fit-sound (c .before .args .s) (c .before .pre .sound)
 
-most-is : (c : tie.After-widest) → c .widest .result ≡ green (numbers c)
-most-is c = green-is (numbers c) (fit c) (c .widest .result) (c .widest .ensures)
+most-is : (c : tie.After-widest) → c .widest .result ≡ green (street-of c)
+most-is c = green-is (street-of c) (fit c) (c .widest .result) (c .widest .ensures)
 
 widest-requires : tie.Need-widest-requires
 widest-requires c κs = search needs
@@ -32,7 +32,7 @@ returns c =
     let c1 = c .before .before in
     let w = c1 .before .args .width in
     c .refused .ensures
-    ∙ check-is (numbers c1) w false (outside (numbers c1) (fit c1) w (λ a. omega (arith, asked-green (numbers c1) (fit c1) w a, most-is c1)))
+    ∙ check-is (street-of c1) w false (outside (street-of c1) (fit c1) w (λ a. omega (arith, asked-green (street-of c1) (fit c1) w a, most-is c1)))
 
 refused-requires-2 : tie.Need-refused-requires-2
 refused-requires-2 c κs = search needs
@@ -41,7 +41,7 @@ returns-2 : tie.Need-returns-2
 returns-2 c =
     let c1 = c .before .before .before in
     let w = c1 .before .args .width in
-    c .refused2 .ensures ∙ check-is (numbers c1) w false (outside (numbers c1) (fit c1) w (λ a. omega (arith, a .some)))
+    c .refused2 .ensures ∙ check-is (street-of c1) w false (outside (street-of c1) (fit c1) w (λ a. omega (arith, a .some)))
 
 mul-if3 : tie.Need-mul-if3
 mul-if3 c = search needs
@@ -49,7 +49,7 @@ mul-if3 c = search needs
 add-if3 : tie.Need-add-if3
 add-if3 c =
     let c1 = c .before .before .before in
-    omega (arith, most-is c1, green-le (numbers c1) (fit c1), c1 .before .pre .sound .longest)
+    omega (arith, most-is c1, green-le (street-of c1) (fit c1), c1 .before .pre .sound .longest)
 
 refused-requires-3 : tie.Need-refused-requires-3
 refused-requires-3 c κs = search needs
@@ -59,14 +59,14 @@ returns-3 c =
     let c1 = c .before .before .before .before .before in
     let a = c1 .before .args in
     c .refused3 .ensures
-    ∙ check-is (numbers c1) (a .width) false (outside (numbers c1) (fit c1) (a .width) (λ in-range. omega (arith, in-range .reaches, raised-is (a .s) (a .raised) (c1 .before .pre))))
+    ∙ check-is (street-of c1) (a .width) false (outside (street-of c1) (fit c1) (a .width) (λ in-range. omega (arith, in-range .reaches, raised-is (a .s) (a .raised) (c1 .before .pre))))
 
 returns-4 : tie.Need-returns-4
 returns-4 c =
     let c1 = c .before .before .before .before in
     let a = c1 .before .args in
-    check-is (numbers c1) (a .width) true
-    (within (numbers c1) (fit c1) (a .width) (omega arith) (omega (arith, raised-is (a .s) (a .raised) (c1 .before .pre))) (omega (arith, most-is c1)))
+    check-is (street-of c1) (a .width) true
+    (within (street-of c1) (fit c1) (a .width) (omega arith) (omega (arith, raised-is (a .s) (a .raised) (c1 .before .pre))) (omega (arith, most-is c1)))
 
 pub in-range-spec : {M : Type 1} → statement M
 in-range-spec =

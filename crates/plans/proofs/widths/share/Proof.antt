@@ -11,17 +11,17 @@ use borrow.Author.Needs.{needs}
 use Rattle.plans.proofs.widths.share.Statement.{statement}
 use Rattle.plans.proofs.widths.share.Tie as tie
 
--- the street's numbers once g is out, g itself, and B raised
-abbrev numbers : tie.After-widest → Timed
-numbers c = timedStreet (c .before .before .args .s)
+-- the street once g is out, g itself, and B raised
+abbrev street-of : tie.After-widest → Timed
+street-of c = timedStreet (c .before .before .args .s)
 
-fit : (c : tie.After-widest) → Fit (numbers c)
+fit : (c : tie.After-widest) → Fit (street-of c)
 fit c = fit-sound (c .before .before .args .s) (c .before .before .pre .0 .sound)
 
-most-is : (c : tie.After-widest) → c .widest .result ≡ green (numbers c)
-most-is c = green-is (numbers c) (fit c) (c .widest .result) (c .widest .ensures)
+most-is : (c : tie.After-widest) → c .widest .result ≡ green (street-of c)
+most-is c = green-is (street-of c) (fit c) (c .widest .result) (c .widest .ensures)
 
-B-is : (c : tie.After-widest) → c .before .before .args .raised ≡ B⁺ (numbers c)
+B-is : (c : tie.After-widest) → c .before .before .args .raised ≡ B⁺ (street-of c)
 B-is c = raised-is (c .before .before .args .s) (c .before .before .args .raised) (c .before .before .pre .0)
 
 mul-h : tie.Need-mul-h
@@ -59,7 +59,7 @@ smaller-requires c κs = search needs
 returns : tie.Need-returns
 returns c =
     let c1 = c .before .before .before in
-    let s = numbers c1 in
+    let s = street-of c1 in
     let L = c1 .before .before .args .longer in
     let T = c1 .before .before .args .sum in
     c .smaller .ensures
@@ -85,7 +85,7 @@ returns-2 c =
     let c1 = c .before .before .before in
     let a = c1 .before .before .args in
     most-is c1
-    ∙ sym (platoons-crowd (numbers c1) (fit c1) (a .longer) (a .sum) (omega (arith, B-is c1)) (omega (arith, B-is c1, most-is c1, c .before .smaller2 .ensures)))
+    ∙ sym (platoons-crowd (street-of c1) (fit c1) (a .longer) (a .sum) (omega (arith, B-is c1)) (omega (arith, B-is c1, most-is c1, c .before .smaller2 .ensures)))
 
 returns-3 : tie.Need-returns-3
 returns-3 c =
@@ -93,7 +93,7 @@ returns-3 c =
     let a = c1 .before .before .args in
     c .before .smaller2 .ensures
     ∙ ap (min (a .longer)) (most-is c1)
-    ∙ sym (platoons-rest (numbers c1) (fit c1) (a .longer) (a .sum) (omega (arith, B-is c1)) (omega (arith, B-is c1, most-is c1, c .before .smaller2 .ensures)))
+    ∙ sym (platoons-rest (street-of c1) (fit c1) (a .longer) (a .sum) (omega (arith, B-is c1)) (omega (arith, B-is c1, most-is c1, c .before .smaller2 .ensures)))
 
 pub share-spec : {M : Type 1} → statement M
 share-spec =
