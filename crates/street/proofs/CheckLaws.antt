@@ -9,7 +9,8 @@ use borrow.Author.Tests.{lt-ltb, le-ltb, le-leb, lt-leb, leb-true, eqb-true}
 use Rattle.street.specs.Limits.{minSignals, maxSignals, minCycle, maxCycle}
 use Rattle.street.specs.Checks.{within, unless, orNext, _and_, countCheck, cycleCheck}
 use Rattle.street.specs.declared.Code.{Code}
-use Rattle.street.specs.declared.Code.the-variants.{Count, Cycle}
+use Rattle.street.specs.declared.Code.the-variants.{Sheet, Count, Room, Cycle, Red, Distance, Speed, Platoon, Width, Offset}
+use Rattle.street.specs.Codes.{codeNumber}
 use Rattle.street.specs.declared.Verdict.{Verdict}
 use Rattle.street.specs.declared.Verdict.the-variants.{Passed, Refused}
 
@@ -76,3 +77,16 @@ cycle-range ticks e = within-range minCycle maxCycle ticks (passes _ Cycle e)
 pub last-check : (v : Verdict) → orNext v Passed ≡ v
 last-check Passed = refl
 last-check (Refused f) = refl
+
+-- no code is 0
+pub code-some : (c : Code) → 1 ≤ codeNumber c
+code-some Sheet = omega arith
+code-some Count = omega arith
+code-some Room = omega arith
+code-some Cycle = omega arith
+code-some Red = omega arith
+code-some Distance = omega arith
+code-some Speed = omega arith
+code-some Platoon = omega arith
+code-some Width = omega arith
+code-some Offset = omega arith

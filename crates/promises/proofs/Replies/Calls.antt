@@ -13,14 +13,12 @@ use Rattle.circle.proofs.Numbers.{getD-listBelow}
 use Rattle.circle.proofs.Formulas.{reference-lt, other-width}
 use Rattle.circle.proofs.Bands.{Bands}
 use Rattle.street.specs.Lists.{Lists, signals}
-use Rattle.street.specs.Codes.{codeNumber}
 use Rattle.street.specs.Checks.{orNext, planChecks}
 use Rattle.street.specs.Times.{m, timed}
-use Rattle.street.specs.declared.Code.{Code}
-use Rattle.street.specs.declared.Code.the-variants.{Sheet, Count, Room, Cycle, Red, Distance, Speed, Platoon, Width, Offset}
+use Rattle.street.specs.declared.Code.the-variants.{Width}
 use Rattle.street.specs.declared.Verdict.{Verdict}
 use Rattle.street.specs.declared.Verdict.the-variants.{Passed, Refused}
-use Rattle.street.proofs.CheckLaws.{passes}
+use Rattle.street.proofs.CheckLaws.{passes, code-some}
 use Rattle.street.proofs.Passed.{first-passed, rest-passed}
 use Rattle.plans.specs.Answers.{verdictOf, numbersOf, answered}
 use Rattle.plans.specs.Moved.{shiftOf, movedOffset, movedPlan, outboundWidth, inboundWidth}
@@ -41,20 +39,7 @@ use Rattle.promises.proofs.Rounded.Moved.{Follows, equal-pattern, moved
 use Rattle.promises.proofs.Exact.Rounding.{beats, falls, kept}
 use Rattle.promises.proofs.Exact.Whole.{equal-exactly, filled, moved-exact}
 
--- no code is 0
-code-some : (c : Code) → 1 ≤ codeNumber c
-code-some Sheet = omega arith
-code-some Count = omega arith
-code-some Room = omega arith
-code-some Cycle = omega arith
-code-some Red = omega arith
-code-some Distance = omega arith
-code-some Speed = omega arith
-code-some Platoon = omega arith
-code-some Width = omega arith
-code-some Offset = omega arith
-
--- so an answer with code 0 passed the checks
+-- an answer with code 0 passed the checks
 planned : (v : Verdict) (p : Plan) → numbersOf (answered v p) .code ≡ 0 → v ≡ Passed
 planned Passed p e = refl
 planned (Refused f) p e = absurd (omega (arith, code-some (f .code)))
