@@ -13,24 +13,15 @@ use Rattle.circle.specs.Over.{firstBelow}
 use Rattle.circle.proofs.Numbers.{first-none}
 use Rattle.street.specs.Limits.{minSignals, maxSignals}
 use Rattle.street.specs.Lists.{Lists, signals}
-use Rattle.street.specs.Checks.{_and_, within, refuse, unless, orNext, firstFault, countCheck, roomCheck, cycleCheck, redCheck, distanceCheck, speedCheck, planChecks}
+use Rattle.street.specs.Checks.{_and_, within, refuse, unless, orNext, firstFault, countCheck, roomCheck, cycleCheck, counts, numberChecks, planChecks}
 use Rattle.street.specs.declared.Code.the-variants.{Count, Room, Offset}
 use Rattle.street.specs.declared.Street.{Street}
 use Rattle.street.specs.declared.Verdict.{Verdict}
 use Rattle.street.proofs.CheckLaws.{last-check}
-use Rattle.street.proofs.Passed.{no-fault}
+use Rattle.street.proofs.Passed.{first-of-both, no-fault}
 use Rattle.street.specs.declared.Verdict.the-variants as verdict
 use Rattle.bands.specs.Search.{Placed}
 use Rattle.bands.specs.Measure.{sizeCheck, badOffset, offsetCheck, measureChecks}
-
--- checks in a row, and one after them
-next-next : (u v w : Verdict) → orNext u (orNext v w) ≡ orNext (orNext u v) w
-next-next verdict.Passed v w = refl
-next-next (verdict.Refused f) v w = refl
-
-faults-last : (vs : List Verdict) (v : Verdict) → firstFault (vs ++ (v ∷ [])) ≡ orNext (firstFault vs) v
-faults-last [] v = last-check v
-faults-last (u ∷ vs) v = ap (orNext u) (faults-last vs v) ∙ next-next u (firstFault vs) v
 
 -- a count's fault is one refusal, whichever list it is of
 count-faults : (t : Bool) (v : Verdict) → orNext (unless t Count) (orNext (refuse Count 0) v) ≡ refuse Count 0
@@ -42,29 +33,26 @@ unfolding countCheck
 count-first n d o i v = count-faults (within minSignals maxSignals n and eqb d n and eqb o (n - 1) and eqb i (n - 1)) v
 
 module _ (l : Lists) (offsets : List ℕ) where
-  counts : Verdict
-  counts = countCheck (signals l) (length (l .distances)) (length (l .outbound)) (length (l .inbound))
-
   -- the checks of the lists' numbers, with the offsets' own after them or without it
   ranges : List Verdict → List Verdict
-  ranges after =
-      cycleCheck (l .cycle) ∷ redCheck (l .cycle) (l .reds) ∷ distanceCheck (l .distances) ∷ speedCheck (l .outbound) (l .inbound) ∷ after
+  ranges after = cycleCheck (l .cycle) ∷ numberChecks l ++ after
 
   pub checks-short : (length offsets ≡ signals l → ⊥) → measureChecks l offsets ≡ refuse Count 0
-  unfolding measureChecks sizeCheck counts ranges
+  unfolding measureChecks sizeCheck ranges
   checks-short n =
       let rest = firstFault (ranges (offsetCheck (l .cycle) offsets ∷ [])) in
-      ap (λ t. orNext counts (orNext (unless t Count) rest)) (ne-eqb (length offsets) (signals l) n)
+      ap (λ t. orNext (counts l) (orNext (unless t Count) rest)) (ne-eqb (length offsets) (signals l) n)
       ∙ count-first (signals l) (length (l .distances)) (length (l .outbound)) (length (l .inbound)) rest
 
   pub checks-full : length offsets ≡ signals l → measureChecks l offsets ≡ orNext (planChecks l (signals l)) (offsetCheck (l .cycle) offsets)
-  unfolding measureChecks sizeCheck planChecks roomCheck counts ranges
+  unfolding measureChecks sizeCheck planChecks roomCheck ranges
   checks-full e =
       let last = offsetCheck (l .cycle) offsets in
       let self : signals l ≤ signals l = omega arith in
-      ap (λ t. orNext counts (orNext (unless t Count) (firstFault (ranges (last ∷ []))))) (eq-eqb (length offsets) (signals l) e)
-      ∙ faults-last (counts ∷ verdict.Passed ∷ ranges []) last
-      ∙ ap (λ t. orNext (orNext counts (orNext (unless t Room) (firstFault (ranges [])))) last) (sym (le-leb (signals l) (signals l) self))
+      ap (λ t. orNext (counts l) (orNext (unless t Count) (firstFault (ranges (last ∷ []))))) (eq-eqb (length offsets) (signals l) e)
+      ∙ sym (first-of-both (counts l ∷ verdict.Passed ∷ ranges []) (last ∷ []))
+      ∙ ap (orNext (firstFault (counts l ∷ verdict.Passed ∷ ranges []))) (last-check last)
+      ∙ ap (λ t. orNext (orNext (counts l) (orNext (unless t Room) (firstFault (ranges [])))) last) (sym (le-leb (signals l) (signals l) self))
 
 -- the offsets' check passed: each is on the cycle
 pub placed-on : (s : Street) (offsets : List ℕ) → length offsets ≡ s .road .signals → offsetCheck (s .cycle) offsets ≡ verdict.Passed → Placed s offsets

@@ -1,14 +1,11 @@
 -- From the street that the search works on to the measure of the typed lists. Seen from where it departs, a direction has the band of its way; the street and the lists agree
 -- at every signal, so their bands are the same. The call answers by the checks, or with these bands. Assumes nothing.
-use Prim.Native.Nat.{ℕ, zero, suc, _+_, _-_, _*_, _≤_, _<_}
-use mathlib.Core.Path.{_≡_, sym, ap, _∙_, subst}
+use Prim.Native.Nat.{ℕ, _+_, _-_, _*_, _≤_, _<_}
+use mathlib.Core.Path.{_≡_, sym, ap, _∙_}
 use mathlib.Core.List.{List}
-use mathlib.Core.Logic.{⊎-elim}
 use native.Mathlib.Omega.{arith}
-use native.Mathlib.Nat.{eq-or-lt-of-le, le-of-suc-le-suc}
 use lib.IntN.{pos, _-ℤ_}
 use lib.ListN.{length, getD, drop, replicate}
-use Rattle.circle.specs.Over.{sumBelow}
 use Rattle.circle.specs.Method.{Timed, halves, redStart}
 use Rattle.circle.specs.Bands.{Way, outboundWay, inboundWay}
 use Rattle.circle.proofs.Numbers.{man-lt, getD-listBelow}
@@ -16,17 +13,17 @@ use Rattle.circle.proofs.Stretches.{outbound-alike, inbound-alike}
 use Rattle.street.specs.Limits.{maxSignals}
 use Rattle.street.specs.Lists.{Lists, signals}
 use Rattle.street.specs.Checks.{orNext, planChecks}
-use Rattle.street.specs.Times.{timed, linkTicks}
+use Rattle.street.specs.Times.{timed}
 use Rattle.street.specs.Streets.{padded, streetOf, timedStreet, Sound}
 use Rattle.street.specs.declared.Code.the-variants.{Count}
 use Rattle.street.specs.declared.Refusal.{Refusal}
 use Rattle.street.specs.declared.Street.{Street}
-use Rattle.street.proofs.Sound.{sound, street-agrees}
+use Rattle.street.proofs.Sound.{street-agrees}
 use Rattle.street.specs.declared.Verdict.the-variants as verdict
 use Rattle.bands.specs.declared.Band.{Band}
 use Rattle.bands.specs.declared.Direction.{Direction}
 use Rattle.bands.specs.declared.Measurement.{Measurement}
-use Rattle.bands.specs.Search.{lagOf, endOf, Onward, seen}
+use Rattle.bands.specs.Search.{lagOf, endOf, seen}
 use Rattle.bands.specs.Measure.{offsetCheck, bandOf, measuredOf, foundOr, measurementOf}
 use Rattle.bands.specs.declared.Measurement.the-variants as measurement
 use Rattle.bands.proofs.SearchLaws.{OnCycle, seen-alike, band-alike}
@@ -65,28 +62,6 @@ module _ (s : Street) (ok : Sound s) (direction : Direction) (offsets ends : Lis
       ∙ band-alike (seen (timedStreet s) ends) (wayOf direction (timedStreet s) offsets)
       (seen-alike (timedStreet s) offsets ends (lagOf direction (timedStreet s)) (omega (arith, ok .shortest)) end-at)
 
--- a street of lists that passed: its inbound times grow along it
-sum-grows : (f : ℕ → ℕ) (k j : ℕ) → j ≤ k → sumBelow j f ≤ sumBelow k f
-unfolding sumBelow
-sum-grows f zero j l = let e : j ≡ 0 = omega arith in omega (arith, ap (λ (n : ℕ). sumBelow n f) e)
-sum-grows f (suc k) j l =
-    ⊎-elim
-    (λ e. omega (arith, ap (λ (n : ℕ). sumBelow n f) e))
-    (λ m. omega (arith, sum-grows f k j (le-of-suc-le-suc m)))
-    (eq-or-lt-of-le l)
-
-pub onward : (l : Lists) → 0 < signals l → Onward (streetOf l)
-onward l some =
-    let n = signals l in
-    let f = linkTicks (l .distances) (l .inbound) in
-    let rest : List ℕ = drop n (replicate maxSignals 0) in
-    record {
-      each =
-          λ j lj.
-          let last : n - 1 < n = omega arith in
-          omega (arith, getD-listBelow n (timed l .inbound) rest j 0 lj, getD-listBelow n (timed l .inbound) rest (n - 1) 0 last, sum-grows f (n - 1) j (omega arith));
-    }
-
 -- the street's measure is the lists'
 pub measured-agree : (l : Lists) (room : ℕ) (offsets : List ℕ) → planChecks l room ≡ verdict.Passed → measuredOf (timedStreet (streetOf l)) offsets ≡ measuredOf (timed l) offsets
 measured-agree l room offsets passed =
@@ -114,7 +89,3 @@ module _ (l : Lists) (offsets : List ℕ) where
       ∙ ap (λ x. foundOr (offsetCheck (x .cycle) offsets) (measuredOf (timedStreet x) offsets)) is
       ∙ ap (foundOr (offsetCheck (l .cycle) offsets)) (measured-agree l (signals l) offsets passed)
       ∙ sym (ap (λ v. foundOr v (measuredOf (timed l) offsets)) (checks-full l offsets e ∙ ap (λ v. orNext v (offsetCheck (l .cycle) offsets)) passed))
-
--- the street of a survey that passed
-pub survey-onward : (l : Lists) (room : ℕ) (s : Street) → s ≡ streetOf l → planChecks l room ≡ verdict.Passed → Onward s
-survey-onward l room s e passed = subst Onward (sym e) (onward l (omega (arith, sound l room passed .road .some)))

@@ -28,10 +28,6 @@ lagOf direction s j = lagBy direction (s .outbound j) (s .inbound j) (s .inbound
 abbrev pub endOf : Direction → Timed → List ℕ → ℕ → ℕ
 endOf direction s offsets j = man (halves s) (pos (getD offsets j 0 + s .red j) -ℤ pos (lagOf direction s j))
 
--- inbound times grow along the street, so that none is above signal n's (01, 'Travel time')
-pub record Onward (s : Street) : Type 0 where
-  pub each : (j : ℕ) → j < s .road .signals → getD (s .road .inbound) j 0 ≤ getD (s .road .inbound) (s .road .signals - 1) 0
-
 -- an offset for each signal, each below H (01, 'Red, departure, band')
 pub record Placed (s : Street) (offsets : List ℕ) : Type 0 where
   pub count : length offsets ≡ s .road .signals

@@ -6,7 +6,7 @@ ghost use mathlib.Core.Path.{_≡_};
 ghost use Prim.Native.Nat.{_≤_};
 ghost use Rattle.street.specs.Limits.{maxTime};
 ghost use Rattle.street.specs.Streets.{padded, timedStreet, Sound};
-ghost use Rattle.bands.specs.Search.{lagBy, endOf, Onward, Placed};
+ghost use Rattle.bands.specs.Search.{lagBy, endOf, Placed};
 
 // How long after its departure a car is at a signal, in halves. Outbound it departs at signal 1, inbound at signal n, whose inbound
 // time is `last`.
@@ -22,7 +22,7 @@ fn lag(direction: Direction, out: u32, back: u32, last: u32) -> u32
 
 // Every signal's red end.
 pub fn ends(s: Street, offsets: &[u32], direction: Direction) -> [u32; Street::MAX_SIGNALS]
-    requires { ⌜ Sound s × Onward s × Placed s (now offsets) ⌝ }
+    requires { ⌜ Sound s × Placed s (now offsets) ⌝ }
     ensures { λ r. ⌜ r ≡ padded (s .road .signals) (endOf direction (timedStreet s) (now (offsets .entry))) ⌝ }
 {
     let road = s.road;

@@ -13,7 +13,7 @@ ghost use lib.ListN.{length};
 ghost use Rattle.street.specs.Limits.{maxSignals, maxCycle};
 ghost use Rattle.street.specs.Lists.{typed};
 ghost use Rattle.street.specs.Streets.{timedStreet, Sound};
-ghost use Rattle.bands.specs.Search.{Onward, Placed};
+ghost use Rattle.bands.specs.Search.{Placed};
 ghost use Rattle.bands.specs.Measure.{offsetCheck, measuredOf, foundOr, measurementOf};
 
 // A direction's band, in halves: its width, and the smallest start that attains it, an instant at signal 1 outbound and at
@@ -59,7 +59,7 @@ fn offset(cycle: u32, offsets: &[u32]) -> Verdict
 
 // The band of each direction: one search over the red ends, brought back to where that direction departs.
 fn bands(s: Street, offsets: &[u32]) -> Measured
-    requires { ⌜ Sound s × Onward s × Placed s (now offsets) ⌝ }
+    requires { ⌜ Sound s × Placed s (now offsets) ⌝ }
     ensures { λ r. ⌜ r ≡ measuredOf (timedStreet s) (now (offsets .entry)) ⌝ }
 {
     let n = s.road.signals;
@@ -77,7 +77,7 @@ fn bands(s: Street, offsets: &[u32]) -> Measured
 
 // The measure on a street whose own checks have passed.
 fn on_street(s: Street, offsets: &[u32]) -> Measurement
-    requires { ⌜ Sound s × Onward s × (length (now offsets) ≡ s .road .signals) ⌝ }
+    requires { ⌜ Sound s × (length (now offsets) ≡ s .road .signals) ⌝ }
     ensures { λ r. ⌜ r ≡ foundOr (offsetCheck (s .cycle) (now (offsets .entry))) (measuredOf (timedStreet s) (now (offsets .entry))) ⌝ }
 {
     let verdict = offset(s.cycle, offsets);

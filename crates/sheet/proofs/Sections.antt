@@ -9,6 +9,7 @@ use native.Mathlib.Omega.{arith}
 use lib.Dec.{leb}
 use lib.ListN.{length, drop}
 use borrow.Author.Tests.{le-leb, lt-leb, leb-true, eq-eqb, ne-eqb}
+use Rattle.circle.proofs.Numbers.{cond-left, cond-right}
 use Rattle.street.specs.Checks.{within}
 use Rattle.street.specs.declared.Code.{Code}
 use Rattle.street.specs.declared.Code.the-variants.{Sheet, Count}
@@ -74,10 +75,6 @@ pub record Counted (least most : ℕ) (xs ys : List ℕ) : Type 0 where
   pub high : length xs ≤ most
   pub even : length ys ≡ length xs
 
-tested : (p q : Bool) → cond p q false ≡ true → (p ≡ true) × (q ≡ true)
-tested true q e = (refl, e)
-tested false q e = (e, absurd (let z : _≡_ {A = ℕ} 0 1 = cc in omega arith))
-
 -- a section whose lines were read: its count, which passed the test, and its lines
 pub record Judged (least most : ℕ) (bytes xs ys rest : List ℕ) : Type 0 where
   pub count : ℕ
@@ -93,13 +90,12 @@ past-section least most bytes xs ys rest e =
     let judge : ℕ → List ℕ → Lines = λ n r. cond (within least most n) (pairs n r) (fault Count) in
     let l = past-line (fault Sheet) judge (lines xs ys rest) (not-lines Sheet xs ys rest) (number bytes) e in
     let t = past-test (pairs (l .0) (l .1)) (fault Count) (lines xs ys rest) (not-lines Count xs ys rest) (within least most (l .0)) (l .3) in
-    let b = tested (leb least (l .0)) (leb (l .0) most) (t .0) in
     record {
       count = l .0;
       after = l .1;
       line = l .2;
-      low = leb-true least (l .0) (b .0);
-      high = leb-true (l .0) most (b .1);
+      low = leb-true least (l .0) (cond-left (leb least (l .0)) (leb (l .0) most) (t .0));
+      high = leb-true (l .0) most (cond-right (leb least (l .0)) (leb (l .0) most) (t .0));
       below = t .1;
     }
 

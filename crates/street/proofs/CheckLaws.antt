@@ -6,8 +6,9 @@ use native.Mathlib.Omega.{arith}
 use native.Mathlib.Decide.{decLe}
 use lib.Dec.{leb, ltb, eqb}
 use borrow.Author.Tests.{lt-ltb, le-ltb, le-leb, lt-leb, leb-true, eqb-true}
+use Rattle.circle.proofs.Numbers.{cond-left, cond-right}
 use Rattle.street.specs.Limits.{minSignals, maxSignals, minCycle, maxCycle}
-use Rattle.street.specs.Checks.{within, unless, orNext, _and_, countCheck, cycleCheck}
+use Rattle.street.specs.Checks.{within, unless, orNext, countCheck, cycleCheck}
 use Rattle.street.specs.declared.Code.{Code}
 use Rattle.street.specs.declared.Code.the-variants.{Sheet, Count, Room, Cycle, Red, Distance, Speed, Platoon, Width, Offset}
 use Rattle.street.specs.Codes.{codeNumber}
@@ -30,21 +31,13 @@ pub passes : (t : Bool) (code : Code) → unless t code ≡ Passed → t ≡ tru
 passes true code e = refl
 passes false code e = let z : _≡_ {A = ℕ} 0 1 = cc in absurd (omega arith)
 
-and-left : (p q : Bool) → (p and q) ≡ true → p ≡ true
-and-left true q e = refl
-and-left false q e = e
-
-and-right : (p q : Bool) → (p and q) ≡ true → q ≡ true
-and-right true q e = e
-and-right false q e = let z : _≡_ {A = ℕ} 0 1 = cc in absurd (omega arith)
-
 pub record Within (least most x : ℕ) : Type 0 where
   pub low : least ≤ x
   pub high : x ≤ most
 
 pub within-range : (low high x : ℕ) → within low high x ≡ true → Within low high x
 within-range low high x e =
-    record { low = leb-true _ _ (and-left _ _ e); high = leb-true _ _ (and-right (leb low x) (leb x high) e) }
+    record { low = leb-true _ _ (cond-left _ _ e); high = leb-true _ _ (cond-right (leb low x) (leb x high) e) }
 
 -- what the count check tells: 1 to 32 signals, and each list's length
 pub record Counted (n d o i : ℕ) : Type 0 where
@@ -58,15 +51,15 @@ pub counted : (n d o i : ℕ) → countCheck n d o i ≡ Passed → Counted n d 
 unfolding countCheck
 counted n d o i e =
     let all = passes _ Count e in
-    let rest = and-right (within minSignals maxSignals n) _ all in
-    let rest2 = and-right (eqb d n) _ rest in
-    let range = within-range minSignals maxSignals n (and-left _ _ all) in
+    let rest = cond-right (within minSignals maxSignals n) _ all in
+    let rest2 = cond-right (eqb d n) _ rest in
+    let range = within-range minSignals maxSignals n (cond-left _ _ all) in
     record {
       least = range .low;
       most = range .high;
-      distances = eqb-true _ _ (and-left _ _ rest);
-      outbound = eqb-true _ _ (and-left _ _ rest2);
-      inbound = eqb-true _ _ (and-right (eqb o (n - 1)) _ rest2);
+      distances = eqb-true _ _ (cond-left _ _ rest);
+      outbound = eqb-true _ _ (cond-left _ _ rest2);
+      inbound = eqb-true _ _ (cond-right (eqb o (n - 1)) _ rest2);
     }
 
 pub cycle-range : (ticks : ℕ) → cycleCheck ticks ≡ Passed → Within minCycle maxCycle ticks

@@ -3,12 +3,12 @@ use Prim.Native.Nat.{ℕ, _-_, _<_}
 use mathlib.Core.Path.{_≡_, refl, sym, ap, _∙_, subst}
 use native.Mathlib.Omega.{arith}
 use lib.ListN.{drop, getD, replicate}
-use Rattle.circle.proofs.Numbers.{getD-listBelow}
+use Rattle.circle.proofs.Numbers.{getD-listBelow, sum-rises}
 use Rattle.circle.proofs.Formulas.{Agree}
 use Rattle.street.specs.Limits.{maxSignals}
 use Rattle.street.specs.Lists.{Lists, signals}
 use Rattle.street.specs.Checks.{planChecks}
-use Rattle.street.specs.Times.{roundedLink, timed}
+use Rattle.street.specs.Times.{linkTicks, roundedLink, timed}
 use Rattle.street.specs.Streets.{padded, streetOf, surveyed, surveyedAs, timedStreet, Paved, Sound}
 use Rattle.street.specs.declared.Street.{Street}
 use Rattle.street.specs.declared.Surveyed.{Surveyed}
@@ -37,6 +37,11 @@ module _ (l : Lists) (room : ℕ) (passed : planChecks l room ≡ Passed) where
             let at-k = getD-padded (signals l) (timed l .inbound) k h in
             let far = time-far (l .distances) (l .inbound) (ok .inbound) k (omega arith) in
             omega arith;
+        onward =
+            λ k h.
+            let at-k = getD-padded (signals l) (timed l .inbound) k h in
+            let last = getD-padded (signals l) (timed l .inbound) (signals l - 1) (omega arith) in
+            omega (arith, sum-rises (linkTicks (l .distances) (l .inbound)) (signals l - 1) k (omega arith));
         links = omega (arith, count-small (signals l - 1) (roundedLink (l .distances) (l .outbound) (l .inbound)));
       }
 

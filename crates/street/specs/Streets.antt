@@ -66,12 +66,13 @@ timedStreet s =
       inbound = λ j. getD (s .road .inbound) j 0;
     }
 
--- what holds of every road whose distances and speeds passed their checks
+-- what holds of every road whose distances and speeds passed their checks; its inbound times grow along it, so that none is above signal n's
 pub record Paved (r : Road) : Type 0 where
   pub some : minSignals ≤ r .signals
   pub few : r .signals ≤ maxSignals
   pub out : (k : ℕ) → k < r .signals → getD (r .outbound) k 0 ≤ maxTime
   pub back : (k : ℕ) → k < r .signals → getD (r .inbound) k 0 ≤ maxTime
+  pub onward : (k : ℕ) → k < r .signals → getD (r .inbound) k 0 ≤ getD (r .inbound) (r .signals - 1) 0
   pub links : r .rounded < r .signals
 
 -- and of every street whose checks passed: what the search builds on

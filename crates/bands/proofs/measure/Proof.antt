@@ -5,7 +5,7 @@ use borrow.Author.Needs.{needs}
 use Rattle.street.specs.Lists.{typed, signals}
 use Rattle.street.specs.declared.Verdict.the-variants.{Passed}
 use Rattle.street.proofs.Sound.{verdict-checks, passed-street, passed-sound}
-use Rattle.bands.proofs.MeasureLaws.{measure-short, measure-refused, measure-surveyed, survey-onward}
+use Rattle.bands.proofs.MeasureLaws.{measure-short, measure-refused, measure-surveyed}
 use Rattle.bands.proofs.measure.Statement.{statement}
 use Rattle.bands.proofs.measure.Tie as tie
 
@@ -33,7 +33,7 @@ on-street-requires c κs =
     let x = c .before .before .before .new .result in
     let passed = verdict-checks l (signals l) x Passed (c .before .before .before .new .ensures) (c .before .enum-told .given .1) in
     let is = passed-street l (signals l) x (c .before .before .before .new .ensures) passed in
-    (passed-sound l (signals l) (x .street) is passed, survey-onward l (signals l) (x .street) is passed, c .before .before .before .before .if1 .left ∙ sym (ap (λ s. s .road .signals) is))
+    (passed-sound l (signals l) (x .street) is passed, c .before .before .before .before .if1 .left ∙ sym (ap (λ s. s .road .signals) is))
 
 returns-2 : tie.Need-returns-2
 returns-2 c =

@@ -13,6 +13,7 @@ use Rattle.circle.specs.Method.{Timed, halves, B, reference, phase, offs
 use Rattle.circle.specs.Moved.{g, inRange, chosen, outboundLowering, inboundLowering, lowered, otherWidth}
 use Rattle.circle.proofs.Numbers.Signed.{sub-eq, pos-sub, pos-minus, pos-less, add-sub, minus-sub, sub-injective, le-sub, max-sub, orZero-sub}
 use Rattle.circle.proofs.Numbers.Man.{Turns, man-turns}
+use Rattle.circle.proofs.Numbers.Tests.{cond-left, cond-right}
 use Rattle.circle.proofs.Numbers.Over.{minBelow, min-le, min-at, min-from, least-raised}
 use Rattle.circle.proofs.Formulas.Method.{u-is, u-range}
 use Rattle.circle.proofs.Formulas.Raised.{Fit, B⁺, B-raised, low}
@@ -31,11 +32,6 @@ pub record Asked (s : Timed) (w : ℕ) : Type 0 where
 -- a natural, raised by h
 pub raise : (a h : ℕ) → pos a ≡ subℕ (a + h) h
 raise a h = pos-sub a ∙ sub-eq a 0 (a + h) h (omega arith)
-
--- two tests in a row
-both : (p q : Bool) → cond p q false ≡ true → (p ≡ true) × (q ≡ true)
-both true q e = (refl, e)
-both false q e = (e, cc)
 
 module _ (s : Timed) (fit : Fit s) where
   around : 0 < 2 * s .cycle
@@ -115,7 +111,8 @@ module _ (s : Timed) (fit : Fit s) where
 
   pub asked : (w : ℕ) → inRange s w ≡ true → Asked s w
   asked w e =
-      let (p, q) = both (leb (max (1 + halves s) (B⁺ s)) (w + halves s)) (leb w (green s)) (sym (tested w) ∙ e) in
+      let p = cond-left (leb (max (1 + halves s) (B⁺ s)) (w + halves s)) (leb w (green s)) (sym (tested w) ∙ e) in
+      let q = cond-right (leb (max (1 + halves s) (B⁺ s)) (w + halves s)) (leb w (green s)) (sym (tested w) ∙ e) in
       let l = leb-true (max (1 + halves s) (B⁺ s)) (w + halves s) p in
       let m = leb-true w (green s) q in
       record {

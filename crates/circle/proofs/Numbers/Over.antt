@@ -68,6 +68,16 @@ pub sum-more : (n : ℕ) (f : ℕ → ℕ) → sumBelow (n + 1) f ≡ sumBelow n
 unfolding sumBelow
 sum-more n f = ap (λ (k : ℕ). sumBelow k f) (add-one n)
 
+-- and a longer sum is not less
+pub sum-rises : (f : ℕ → ℕ) (n j : ℕ) → j ≤ n → sumBelow j f ≤ sumBelow n f
+unfolding sumBelow
+sum-rises f zero j l = let e : j ≡ 0 = omega arith in omega (arith, ap (λ (k : ℕ). sumBelow k f) e)
+sum-rises f (suc n) j l =
+    ⊎-elim
+    (λ e. omega (arith, ap (λ (k : ℕ). sumBelow k f) e))
+    (λ h. omega (arith, sum-rises f n j (le-of-suc-le-suc h)))
+    (eq-or-lt-of-le l)
+
 -- the least and the greatest of naturals, from a top or from 0
 unfoldable pub minBelow : ℕ → ℕ → (ℕ → ℕ) → ℕ
 minBelow top zero g = top

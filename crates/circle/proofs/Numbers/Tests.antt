@@ -14,11 +14,12 @@ use Rattle.circle.proofs.Numbers.Over.{first-none}
 pub true-false : _≡_ {A = Bool} true false → ⊥
 true-false e = let z : _≡_ {A = ℕ} 0 1 = cc in omega arith
 
-cond-left : (p q : Bool) → cond p q false ≡ true → p ≡ true
+-- two tests in a row
+pub cond-left : (p q : Bool) → cond p q false ≡ true → p ≡ true
 cond-left true q e = refl
 cond-left false q e = e
 
-cond-right : (p q : Bool) → cond p q false ≡ true → q ≡ true
+pub cond-right : (p q : Bool) → cond p q false ≡ true → q ≡ true
 cond-right true q e = e
 cond-right false q e = absurd (true-false (sym e))
 

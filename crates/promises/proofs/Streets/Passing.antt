@@ -11,7 +11,7 @@ use Rattle.street.specs.Checks.{planChecks}
 use Rattle.street.specs.Times.{timed, linkTicks}
 use Rattle.street.specs.declared.Verdict.the-variants.{Passed}
 use Rattle.street.proofs.Passed.{clear}
-use Rattle.promises.proofs.Streets.Windows.{sum-rises}
+use Rattle.circle.proofs.Numbers.{sum-rises}
 
 module _ (l : Lists) (room : ℕ) (passed : planChecks l room ≡ Passed) where
   pub fit : Fit (timed l)

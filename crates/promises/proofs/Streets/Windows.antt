@@ -4,10 +4,10 @@
 use Prim.Native.Nat.{ℕ, zero, suc, _+_, _-_, _*_, _≤_, _<_}
 use mathlib.Core.Path.{_≡_, ap}
 use mathlib.Core.Bool.{Bool, cond}
-use mathlib.Core.Logic.{⊎-elim}
 use native.Mathlib.Omega.{arith}
-use native.Mathlib.Nat.{mul-le-mul-left, eq-or-lt-of-le, le-of-suc-le-suc}
+use native.Mathlib.Nat.{mul-le-mul-left}
 use Rattle.circle.specs.Over.{sumBelow, countBelow}
+use Rattle.circle.proofs.Numbers.{sum-rises}
 use Rattle.street.proofs.Nearest.{apart}
 
 -- a list of lags in fine units as rounding has it, and the exact one: up to the signal n they lie, moved by one amount, in a window of the length most
@@ -16,15 +16,6 @@ pub record Window (n most : ℕ) (rounded exact : ℕ → ℕ) : Type 0 where
   pub δ : ℕ → ℕ
   pub each : (j : ℕ) → j ≤ n → exact j + moved ≡ rounded j + δ j
   pub within : (j : ℕ) → j ≤ n → δ j ≤ most
-
-pub sum-rises : (f : ℕ → ℕ) (n j : ℕ) → j ≤ n → sumBelow j f ≤ sumBelow n f
-unfolding sumBelow
-sum-rises f zero j l = let e : j ≡ 0 = omega arith in omega (arith, ap (λ (k : ℕ). sumBelow k f) e)
-sum-rises f (suc n) j l =
-    ⊎-elim
-    (λ e. omega (arith, ap (λ (k : ℕ). sumBelow k f) e))
-    (λ h. omega (arith, sum-rises f n j (le-of-suc-le-suc h)))
-    (eq-or-lt-of-le l)
 
 -- over links whose two times R and X differ by at most N where a test marks them, and by nothing elsewhere
 module _ (N n : ℕ) (R X : ℕ → ℕ) (test : ℕ → Bool) (each : (k : ℕ) → k < n → apart (2 * (N * R k)) (X k) ≤ N * cond (test k) 1 0) where

@@ -55,7 +55,7 @@ lag-requires : tie.Need-lag-requires Inv-loop μ-loop
 lag-requires c κs =
     let c0 = c .before .before .before .before .before .before .before in
     let j = c .before .before .before .loop .j in
-    (c0 .pre .0 .road .out j (omega arith), c0 .pre .1 .each j (omega arith), c0 .pre .0 .road .back (c0 .args .t1 .road .signals - 1) (omega (arith, c0 .pre .0 .road .some)))
+    (c0 .pre .0 .road .out j (omega arith), c0 .pre .0 .road .onward j (omega arith), c0 .pre .0 .road .back (c0 .args .t1 .road .signals - 1) (omega (arith, c0 .pre .0 .road .some)))
 
 mul-remainder : tie.Need-mul-remainder Inv-loop μ-loop
 mul-remainder c = search needs
@@ -73,13 +73,13 @@ add-remainder : tie.Need-add-remainder Inv-loop μ-loop
 add-remainder c =
     let c0 = c .before .before .before .before .before .before .before .before .before .before in
     let j = c .before .before .before .before .before .before .loop .j in
-    omega (arith, c0 .pre .2 .each j (omega arith), c0 .pre .0 .goes j (omega arith), c0 .pre .0 .longest)
+    omega (arith, c0 .pre .1 .each j (omega arith), c0 .pre .0 .goes j (omega arith), c0 .pre .0 .longest)
 
 remainder-requires : tie.Need-remainder-requires Inv-loop μ-loop
 remainder-requires c κs =
     let c0 = c .before .before .before .before .before .before .before .before .before .before in
     let j = c .before .before .before .before .before .before .loop .j in
-    omega (arith, c0 .pre .2 .each j (omega arith), c0 .pre .0 .goes j (omega arith), c0 .pre .0 .shortest, c0 .pre .0 .longest)
+    omega (arith, c0 .pre .1 .each j (omega arith), c0 .pre .0 .goes j (omega arith), c0 .pre .0 .shortest, c0 .pre .0 .longest)
 
 mul-all : tie.Need-mul-all Inv-loop μ-loop
 mul-all c = search needs
