@@ -1,6 +1,6 @@
 -- From the street that the search works on to the measure of the typed lists. Seen from where it departs, a direction has the band of its way; the street and the lists agree
 -- at every signal, so their bands are the same. The call answers by the checks, or with these bands. Assumes nothing.
-use Prim.Native.Nat.{ℕ, _+_, _-_, _*_, _≤_, _<_}
+use Prim.Native.Nat.{ℕ, _+_, _-_, _*_, _<_}
 use mathlib.Core.Path.{_≡_, sym, ap, _∙_}
 use mathlib.Core.List.{List}
 use native.Mathlib.Omega.{arith}

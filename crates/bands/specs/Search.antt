@@ -1,5 +1,5 @@
 -- What the search's own functions say of their numbers. A direction is its lags; seen from where it departs, a street is its reds' lengths and the instants at which they end.
-use Prim.Native.Nat.{ℕ, _+_, _-_, _*_, _≤_, _<_}
+use Prim.Native.Nat.{ℕ, _+_, _-_, _*_, _<_}
 use mathlib.Core.Path.{_≡_}
 use mathlib.Core.Bool.{cond}
 use mathlib.Core.List.{List}

@@ -1,7 +1,7 @@
 -- A section, computed at what its count's line showed, and what the code's columns tell of the section that they were read from: how many lines, the columns
 -- that the arrays hold, and where the next section starts. Assumes nothing.
 use Prim.Native.Nat.{ℕ, zero, suc, _≤_, _<_}
-use mathlib.Core.Bool.{Bool, true, false, cond}
+use mathlib.Core.Bool.{cond}
 use mathlib.Core.Logic.{_⊎_}
 use mathlib.Core.Path.{_≡_, refl, sym, ap, _∙_}
 use mathlib.Core.List.{List, []}

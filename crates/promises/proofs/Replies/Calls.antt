@@ -1,6 +1,6 @@
 -- What rounding costs, of a call's reply. Code 0 is given only where the checks found no fault, and then the contract makes the reply's numbers those of the request's plan and the first
 -- entries of the lent list its offsets: so what is proved of the method's numbers holds of the reply's. Nothing is lowered in the equal plan, so it is the method's own. Assumes nothing.
-use Prim.Native.Nat.{ℕ, _+_, _-_, _≤_, _<_}
+use Prim.Native.Nat.{ℕ, _+_, _-_, _<_}
 use mathlib.Core.Path.{_≡_, refl, sym, ap, subst, _∙_}
 use mathlib.Core.Bool.{true}
 use mathlib.Core.List.{List}

@@ -2,7 +2,7 @@
 -- dropped over the links before a signal together come to at most N for each mark. The exact and the rounded time to a signal differ by these two sums, so both lists of lags, from
 -- the first signal on and up to the last one, stay in a window of N times the marks. Assumes nothing.
 use Prim.Native.Nat.{ℕ, zero, suc, _+_, _-_, _*_, _≤_, _<_}
-use mathlib.Core.Path.{_≡_, ap}
+use mathlib.Core.Path.{_≡_}
 use mathlib.Core.Bool.{Bool, cond}
 use native.Mathlib.Omega.{arith}
 use native.Mathlib.Nat.{mul-le-mul-left}
