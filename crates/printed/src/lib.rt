@@ -30,7 +30,7 @@ pub struct Printed {
 }
 
 impl Printed {
-    // Room for every text: a plan's first line takes at most 56 bytes, each of 32 offsets 11, and a refusal 30.
+    // Room for every text: a plan's first line takes at most 106 bytes, each of its offsets 11, and a refusal 50 (proofs/Sizes.antt).
     pub const MAX_BYTES: usize = 512;
 }
 
