@@ -13,7 +13,7 @@ use Rattle.plans.specs.Requests as plans
 use Rattle.plans.specs.declared.Plan.{Plan}
 use Rattle.plans.specs.declared.Answer.{Answer}
 use Rattle.plans.specs.declared.Answer.the-variants as answer
-use Rattle.plans.specs.declared.Request.{Request}
+use Rattle.widths.specs.declared.Request.{Request}
 use Rattle.bands.specs.Measure.{noBand}
 use Rattle.bands.specs.declared.Measurement.the-variants as measurement
 use Rattle.exports.specs.declared.CorbatanPlan.{CorbatanPlan}

@@ -5,7 +5,7 @@ use mathlib.Core.List.{List}
 use Rattle.street.specs.Limits.{maxSignals}
 use Rattle.street.specs.Lists.{Lists}
 use Rattle.sheet.specs.Reading.{readingOf}
-use Rattle.plans.specs.declared.Request.{Request}
+use Rattle.widths.specs.declared.Request.{Request}
 use Rattle.bands.specs.Measure.{measurementOf}
 use Rattle.printed.specs.Text.{printedOf}
 use Rattle.printed.specs.Way.{equalText}

@@ -5,7 +5,7 @@ use Prim.Native.Nat.{ℕ}
 use lib.ListN.{length}
 use Rattle.street.specs.Lists.{Lists}
 use Rattle.plans.specs.Requests.{requestAnswer, requestAfter}
-use Rattle.plans.specs.declared.Request.{Request}
+use Rattle.widths.specs.declared.Request.{Request}
 use Rattle.exports.specs.declared.CorbatanPlan.{CorbatanPlan}
 use Rattle.exports.specs.Flat.{flatPlan}
 

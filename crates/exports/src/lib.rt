@@ -12,7 +12,7 @@ ghost use mathlib.Core.Path.{_≡_};
 ghost use Rattle.street.specs.Limits.{maxSignals};
 ghost use Rattle.street.specs.Lists.{typed};
 ghost use Rattle.sheet.specs.Reading.{readingOf};
-ghost use Rattle.plans.specs.declared.Request.the-variants.{Equal, Outbound, Inbound, Platoons};
+ghost use Rattle.widths.specs.declared.Request.the-variants.{Equal, Outbound, Inbound, Platoons};
 ghost use Rattle.bands.specs.Measure.{measurementOf};
 ghost use Rattle.printed.specs.Text.{printedOf};
 ghost use Rattle.printed.specs.Way.{equalText};

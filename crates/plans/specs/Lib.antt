@@ -1,4 +1,2 @@
 pub mod Answers
-pub mod Moved
 pub mod Requests
-pub mod Steps

@@ -1,45 +1,36 @@
--- What a call with a request answers, and what it leaves in the lent offset list (01, 'The equal plan', 'Moving width' and 'Codes, in order of checking'). The equal plan is the request
--- `Equal`.
-use Prim.Native.Nat.{ℕ}
+-- What a call with a request answers, and what it leaves in the lent offset list (01, 'The equal plan', 'Moving width' and 'Codes, in order of checking').
+use Prim.Native.Nat.{ℕ, _+_}
+use Rattle.circle.specs.Method.{Timed, B, reference, redEnd, redStart}
+use Rattle.plans.specs.declared.Plan.{Plan}
+use Rattle.widths.specs.declared.Request.{Request}
+use Rattle.widths.specs.declared.Shift.{Shift}
 use mathlib.Core.Path.{_≡_}
-use mathlib.Core.Bool.{cond}
 use mathlib.Core.List.{List, [], _∷_, _++_}
 use lib.ListN.{length, drop}
-use lib.Dec.{leb}
 use Rattle.circle.specs.Over.{listBelow}
-use Rattle.circle.specs.Method.{Timed}
-use Rattle.circle.specs.Moved.{inRange}
-use Rattle.street.specs.Limits.{maxPlatoon}
 use Rattle.street.specs.Lists.{Lists, signals}
-use Rattle.street.specs.Checks.{refuse, unless, firstFault, planChecks}
+use Rattle.street.specs.Checks.{firstFault, planChecks}
 use Rattle.street.specs.Times.{timed, m}
-use Rattle.street.specs.declared.Code.the-variants.{Platoon, Width}
 use Rattle.street.specs.declared.Verdict.{Verdict}
 use Rattle.street.specs.declared.Verdict.the-variants.{Passed, Refused}
 use Rattle.plans.specs.Answers.{answered}
-use Rattle.plans.specs.Moved.{shiftOf, movedOffset, movedPlan}
 use Rattle.plans.specs.declared.Answer.{Answer}
-use Rattle.plans.specs.declared.Request.{Request}
-use Rattle.plans.specs.declared.Request.the-variants.{Equal, Outbound, Inbound, Platoons}
+use Rattle.widths.specs.Moved.{shiftOf, outboundWidth, inboundWidth}
+use Rattle.widths.specs.Checks.{requestCheck}
+use Rattle.offsets.specs.Moved.{movedOffset}
 
--- 8 PLATOON: a platoon's length against the limit, with the place of its direction
-abbrev pub lengthCheck : ℕ → ℕ → Verdict
-lengthCheck place long = cond (leb long maxPlatoon) Passed (refuse Platoon place)
-
--- both platoons, the outbound one first
-unfoldable pub platoonCheck : ℕ → ℕ → Verdict
-platoonCheck P Q = firstFault (lengthCheck 1 P ∷ lengthCheck 2 Q ∷ [])
-
--- 9 WIDTH: a requested width against its range
-unfoldable pub widthCheck : Timed → ℕ → Verdict
-widthCheck s w = unless (inRange s w) Width
-
--- the check of what a request adds to a plan's lists
-abbrev pub requestCheck : Request → Timed → Verdict
-requestCheck Equal s = Passed
-requestCheck (Outbound w) s = widthCheck s w
-requestCheck (Inbound w) s = widthCheck s w
-requestCheck (Platoons P Q) s = platoonCheck P Q
+-- the plan's numbers: the reference counted from 1, B, both widths, m, and the named bands' instants at c, whose red moved with its offset
+abbrev pub movedPlan : Shift → Timed → ℕ → Plan
+movedPlan shift s rounded =
+    record {
+      reference = reference s + 1;
+      b = B s;
+      outbound = outboundWidth shift s;
+      inbound = inboundWidth shift s;
+      rounded = rounded;
+      starts = redEnd s (reference s) (movedOffset shift s (reference s));
+      ends = redStart s (reference s) (movedOffset shift s (reference s));
+    }
 
 -- a call's checks in their order: those of every plan, and then the request's
 abbrev pub requestChecks : Request → Lists → ℕ → Verdict

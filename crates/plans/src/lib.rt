@@ -1,11 +1,9 @@
 // The plans: from a street's numbers and a request to the reference signal, the widths and each signal's offset (01, 'The equal plan' and
 // 'Moving width').
-mod offsets;
-mod widths;
-
 use street::Refusal;
 use street::Street;
 use street::Verdict;
+pub use widths::Request;
 use widths::Shift;
 ghost use mathlib.Core.Path.{_≡_};
 ghost use Prim.Native.Nat.{_≤_, _<_, _^_};
@@ -14,18 +12,10 @@ ghost use Rattle.circle.specs.Method.{reference};
 ghost use Rattle.street.specs.Limits.{maxHalves};
 ghost use Rattle.street.specs.Lists.{typed};
 ghost use Rattle.street.specs.Streets.{timedStreet};
-ghost use Rattle.plans.specs.Moved.{movedOffset, movedPlan};
+ghost use Rattle.offsets.specs.Moved.{movedOffset};
+ghost use Rattle.plans.specs.Requests.{movedPlan};
 ghost use Rattle.plans.specs.Requests.{Requested};
-ghost use Rattle.plans.specs.Steps.{Raised, shiftWidth};
-
-// What a caller asks for: the equal plan, a width for one direction, or widths by the platoons' lengths, outbound and then inbound. All
-// are in halves.
-pub enum Request {
-    Equal,
-    Outbound(u32),
-    Inbound(u32),
-    Platoons(u32, u32),
-}
+ghost use Rattle.widths.specs.Moved.{Raised, shiftWidth};
 
 // A plan's numbers. The reference c is counted from 1. B and the widths are in halves, and B can be negative. `rounded` is m,
 // the number of links with a rounded time. `starts` and `ends` are instants at c, from 0 to H - 1: where the named outbound band

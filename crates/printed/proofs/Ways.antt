@@ -22,12 +22,13 @@ use Rattle.sheet.specs.Reading.{Parsed, accepted, refused, parsed, padded, shee
 use Rattle.sheet.specs.declared.Reading.{Reading}
 use Rattle.sheet.proofs.Form.{text-is-accepted, passed-is-text}
 use Rattle.plans.specs.Answers.{answered}
-use Rattle.plans.specs.Moved.{movedOffset, movedPlan}
+use Rattle.offsets.specs.Moved.{movedOffset}
+use Rattle.plans.specs.Requests.{movedPlan}
 use Rattle.plans.specs.Requests.{requestChecks, requestAnswer, requestAfter, written, Requested}
 use Rattle.plans.specs.declared.Plan.{Plan}
 use Rattle.plans.specs.declared.Answer.{Answer}
-use Rattle.plans.specs.declared.Request.the-variants.{Equal}
-use Rattle.plans.specs.declared.widths.Shift.the-variants.{Unmoved}
+use Rattle.widths.specs.declared.Request.the-variants.{Equal}
+use Rattle.widths.specs.declared.Shift.the-variants.{Unmoved}
 use Rattle.printed.specs.declared.Printed.{Printed}
 use Rattle.printed.specs.Text.{maxText, planLine, offsetLines, refusalLine, textOf, Prints}
 use Rattle.printed.specs.Way.{listsOf, lentOf, planText, answerText, equalText, Held}

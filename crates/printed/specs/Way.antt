@@ -10,7 +10,7 @@ use Rattle.street.specs.Lists.{Lists, typed, signals}
 use Rattle.sheet.specs.declared.Sheet.{Sheet}
 use Rattle.sheet.specs.Reading.{Parsed, accepted, refused, parsed}
 use Rattle.plans.specs.Requests.{requestAnswer, requestAfter}
-use Rattle.plans.specs.declared.Request.the-variants.{Equal}
+use Rattle.widths.specs.declared.Request.the-variants.{Equal}
 use Rattle.printed.specs.Text.{textOf, refusalLine}
 
 -- the lists that a sheet's arrays hold

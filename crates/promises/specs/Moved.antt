@@ -6,9 +6,10 @@ use mathlib.Core.Bool.{true}
 use Rattle.circle.specs.Method.{Timed, inUnits}
 use Rattle.circle.specs.Bands.{width, outboundWay, inboundWay}
 use Rattle.circle.specs.Moved.{inRange, otherWidth}
-use Rattle.plans.specs.Moved.{platoonShift, movedOffset, outboundWidth, inboundWidth}
-use Rattle.plans.specs.declared.widths.Shift.{Shift}
-use Rattle.plans.specs.declared.widths.Shift.the-variants.{Unmoved, Outbound, Inbound}
+use Rattle.widths.specs.Moved.{platoonShift, outboundWidth, inboundWidth}
+use Rattle.offsets.specs.Moved.{movedOffset}
+use Rattle.widths.specs.declared.Shift.{Shift}
+use Rattle.widths.specs.declared.Shift.the-variants.{Unmoved, Outbound, Inbound}
 use Rattle.promises.specs.Rounded.{BandsClear}
 
 -- a shift to a width in range; the equal plan asks for none

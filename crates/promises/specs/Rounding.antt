@@ -17,11 +17,11 @@ use Rattle.street.specs.Times.{linkLength, timed, m}
 use Rattle.street.specs.declared.Verdict.the-variants.{Passed}
 use Rattle.plans.specs.Answers.{numbersOf}
 use Rattle.plans.specs.Requests.{Requested}
-use Rattle.plans.specs.Moved.{shiftOf}
+use Rattle.widths.specs.Moved.{shiftOf}
 use Rattle.plans.specs.declared.Answer.{Answer}
-use Rattle.plans.specs.declared.Request.{Request}
-use Rattle.plans.specs.declared.widths.Shift.{Shift}
-use Rattle.plans.specs.declared.widths.Shift.the-variants.{Unmoved, Outbound, Inbound}
+use Rattle.widths.specs.declared.Request.{Request}
+use Rattle.widths.specs.declared.Shift.{Shift}
+use Rattle.widths.specs.declared.Shift.the-variants.{Unmoved, Outbound, Inbound}
 use Rattle.promises.specs.Exact.{Fine, exactLink, exactOutbound, exactInbound}
 use Rattle.promises.specs.Moved.{Firm}
 

@@ -10,7 +10,7 @@ use Rattle.street.specs.Streets.{timedStreet}
 use Rattle.circle.specs.Method.{B, reference, redEnd, redStart}
 use Rattle.circle.proofs.Formulas.{reference-lt}
 use Rattle.plans.proofs.SignedLaws.{reread}
-use Rattle.plans.proofs.OffsetLaws.{moved-lt, red-end-man, red-start-man}
+use Rattle.offsets.proofs.OffsetLaws.{moved-lt, red-end-man, red-start-man}
 use borrow.Author.Needs.{needs}
 use Rattle.plans.proofs.numbers.Statement.{statement}
 use Rattle.plans.proofs.numbers.Tie as tie

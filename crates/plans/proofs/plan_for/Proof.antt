@@ -12,10 +12,12 @@ use Rattle.street.specs.Streets.{streetOf, timedStreet, Sound}
 use Rattle.street.specs.declared.Surveyed.{Surveyed}
 use Rattle.street.specs.declared.Verdict.the-variants.{Passed}
 use Rattle.street.proofs.Sound.{verdict-checks, passed-street, passed-sound}
-use Rattle.plans.specs.Requests.{requestCheck}
-use Rattle.plans.specs.Steps.{Ready, shiftWidth}
-use Rattle.plans.proofs.OffsetLaws.{ready-lt, own-written}
-use Rattle.plans.proofs.RequestLaws.{shift-small, passed-room, requested-refused, asked-refused, requested-planned}
+use Rattle.widths.specs.Checks.{requestCheck}
+use Rattle.offsets.specs.Steps.{Ready}
+use Rattle.widths.specs.Moved.{shiftWidth}
+use Rattle.offsets.proofs.OffsetLaws.{ready-lt, own-written}
+use Rattle.widths.proofs.ShiftLaws.{shift-small}
+use Rattle.plans.proofs.RequestLaws.{passed-room, requested-refused, asked-refused, requested-planned}
 use borrow.Author.Needs.{needs}
 use Rattle.plans.proofs.plan_for.Statement.{statement}
 use Rattle.plans.proofs.plan_for.Tie as tie

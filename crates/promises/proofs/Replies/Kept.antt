@@ -6,7 +6,8 @@ use lib.ListN.{length, getD}
 use Rattle.circle.specs.Method.{reference, redEnd, redStart}
 use Rattle.circle.proofs.Formulas.{reference-lt}
 use Rattle.street.specs.Times.{timed}
-use Rattle.plans.specs.Moved.{shiftOf, movedOffset, outboundWidth, inboundWidth}
+use Rattle.widths.specs.Moved.{shiftOf, outboundWidth, inboundWidth}
+use Rattle.offsets.specs.Moved.{movedOffset}
 use Rattle.promises.specs.Replies.{BandsKept, ReplyBands}
 use Rattle.promises.proofs.Streets.Passing.{fit, bounded, rising}
 use Rattle.promises.proofs.Measured.Widths.{bands-least, bands-measured}

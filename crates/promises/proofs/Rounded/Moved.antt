@@ -15,10 +15,11 @@ use Rattle.circle.proofs.Formulas.{Fit, other-width, platoons-range}
 use Rattle.circle.proofs.Stretches.{Rising, Patterned, offset-patterned}
 use Rattle.circle.proofs.Bands.{Bounded, Bands, equal-bands, outbound-bands, inbound-bands, beside, neither, fill, fit-scaled, rising-scaled, other-scaled}
 use Rattle.street.specs.Times.{timed}
-use Rattle.plans.proofs.EqualLaws.{unmoved-offset}
-use Rattle.plans.specs.Moved.{platoonShift, movedOffset, outboundWidth, inboundWidth}
-use Rattle.plans.specs.declared.widths.Shift.{Shift}
-use Rattle.plans.specs.declared.widths.Shift.the-variants.{Unmoved, Outbound, Inbound}
+use Rattle.offsets.proofs.EqualLaws.{unmoved-offset}
+use Rattle.widths.specs.Moved.{platoonShift, outboundWidth, inboundWidth}
+use Rattle.offsets.specs.Moved.{movedOffset}
+use Rattle.widths.specs.declared.Shift.{Shift}
+use Rattle.widths.specs.declared.Shift.the-variants.{Unmoved, Outbound, Inbound}
 use Rattle.promises.specs.Rounded.{OnStreets}
 use Rattle.promises.specs.Moved.{InRange, PlatoonsInRange, Firm, MovedClear, MovedMeasured, AsWideAsReported, NoneBesides}
 use Rattle.promises.proofs.Streets.Passing.{fit, bounded, bounded-fine, rising}

@@ -4,8 +4,8 @@ use Rattle.circle.specs.Over.{firstBelow, sumBelow, leastBelow, greatestBelow, 
 use Rattle.circle.specs.Method.{u, pairWidth, b, B, reference, phase, offset, equalWidth, redEnd, redStart}
 use Rattle.circle.specs.Moved.{g, inRange, chosen, outboundLowering, inboundLowering, lowered, otherWidth, platoonWidth}
 use Rattle.street.specs.Checks.{countCheck, roomCheck, cycleCheck, redCheck, distanceCheck, speedCheck, planChecks}
-use Rattle.plans.specs.Moved.{platoonShift}
-use Rattle.plans.specs.Requests.{platoonCheck, widthCheck}
+use Rattle.widths.specs.Moved.{platoonShift}
+use Rattle.widths.specs.Checks.{platoonCheck, widthCheck}
 use Rattle.promises.specs.Rows.{ExactBest, lent, Holds, All, pair, streetA, plan, row, best-row, refusal, equal-rows, width-rows, platoon-rows, rows}
 use Rattle.promises.proofs.Exact.Tight.{row-nine}
 

@@ -1,0 +1,3 @@
+pub mod OffsetLaws
+pub mod EqualLaws
+pub mod AgreeLaws

@@ -1,0 +1,47 @@
+-- What the functions of this crate say of their numbers, in the method's terms.
+use Prim.Native.Nat.{ℕ, _+_, _-_, _*_}
+use mathlib.Core.Bool.{cond, Bool}
+use Rattle.circle.specs.Method.{reference}
+use Rattle.widths.specs.declared.Shift.{Shift}
+use Rattle.widths.specs.declared.Shift.the-variants.{Unmoved, Outbound, Inbound}
+use mathlib.Core.Path.{_≡_}
+use mathlib.Core.List.{List}
+use lib.Dec.{leb}
+use lib.IntN.{pos, _-ℤ_}
+use lib.ListN.{getD}
+use Rattle.circle.specs.Man.{man}
+use Rattle.street.specs.Streets.{timedStreet}
+use Rattle.street.specs.declared.Street.{Street}
+use Rattle.search.specs.Search.{Reduced, pairOf}
+use Rattle.offsets.specs.declared.Choice.{Choice}
+use Rattle.widths.specs.Moved.{Raised}
+
+-- what a plan is made from: a sound street, its signals' places on the cycle, its reference and its B
+pub record Ready (s : Street) (x : List ℕ) (c raised : ℕ) : Type 0 where
+  pub base : Raised s raised
+  pub places : Reduced (timedStreet s) x
+  pub found : c ≡ reference (timedStreet s)
+
+-- phase 0 or the cycle, by a test, and the u of that phase out of a pair's two raised widths: a raised width is u + H - 2r
+abbrev pub choiceBy : ℕ → ℕ → List ℕ → Bool → Choice
+choiceBy cycle red w first = record { phase = cond first 0 cycle; u = cond first (getD w 0 0) (getD w 1 0) + 2 * red - 2 * cycle }
+
+-- the better phase by a pair's two raised widths, 0 on a tie
+abbrev pub betterOf : ℕ → ℕ → List ℕ → Choice
+betterOf cycle red w = choiceBy cycle red w (leb (getD w 1 0) (getD w 0 0))
+
+-- the same from the two places on the cycle and the signal's red
+abbrev pub choiceOf : ℕ → ℕ → ℕ → ℕ → Choice
+choiceOf cycle from to red = betterOf cycle red (pairOf cycle from to red)
+
+-- by how much a shift lowers an offset, from B raised and the signal's red and u; by nothing where the difference would be negative
+abbrev pub loweringOf : Shift → ℕ → ℕ → ℕ → ℕ
+loweringOf Unmoved raised red u = 0
+loweringOf (Outbound w) raised red u = u + w - raised
+loweringOf (Inbound w) raised red u = w + 2 * red - u
+
+-- an offset from its two sides: the phase joins the side ahead, the lowering the side that is taken away
+abbrev pub offsetAt : ℕ → ℕ → Shift → ℕ → ℕ → ℕ → ℕ → ℕ → ℕ
+offsetAt cycle raised shift from to red ahead behind =
+    man (2 * cycle)
+    (pos (ahead + choiceOf cycle from to red .phase) -ℤ pos (behind + loweringOf shift raised red (choiceOf cycle from to red .u)))

@@ -1,0 +1,180 @@
+// Requests, and the widths that they come to (01, 'Moving width'). Widths and platoons are in halves; B comes raised by the cycle H,
+// so that it is never negative.
+use street::Code;
+use street::Street;
+use street::Verdict;
+ghost use mathlib.Core.Path.{_≡_};
+ghost use Prim.Native.Nat.{_*_, _/_, _≤_, _<_, _^_};
+ghost use lib.IntN.{pos};
+ghost use Rattle.circle.specs.Moved.{g, otherWidth, platoonWidth};
+ghost use Rattle.street.specs.Limits.{maxHalves, maxPlatoon};
+ghost use Rattle.street.specs.Streets.{timedStreet, Sound};
+ghost use Rattle.widths.specs.Moved.{platoonShift, shiftOf};
+ghost use Rattle.widths.specs.Checks.{platoonCheck, widthCheck, requestCheck};
+ghost use Rattle.widths.specs.Moved.{Raised, shiftWidth, widthsOf};
+
+// What a caller asks for: the equal plan, a width for one direction, or widths by the platoons' lengths, outbound and then inbound. All
+// are in halves.
+pub enum Request {
+    Equal,
+    Outbound(u32),
+    Inbound(u32),
+    Platoons(u32, u32),
+}
+
+// What a request comes to: the equal plan as it is, or moved so that one direction has this width.
+pub enum Shift {
+    Unmoved,
+    Outbound(u32),
+    Inbound(u32),
+}
+
+// The two widths that a plan reports.
+pub struct Widths {
+    pub outbound: u32,
+    pub inbound: u32,
+}
+
+// g, the widest band that any signal lets through: the least H - 2r(j).
+fn widest(s: Street) -> u32
+    requires { ⌜ Sound s ⌝ }
+    ensures { λ r. ⌜ pos r ≡ g (timedStreet s) ⌝ }
+{
+    let n = s.road.signals;
+    let h = 2 * s.cycle;
+    let mut low = h - 2 * s.reds[0];
+    let mut j: usize = 1;
+    while j < n {
+        low = circle::smaller(low, h - 2 * s.reds[j]);
+        j += 1;
+    }
+    low
+}
+
+// A requested width lies from the larger of 1 and B up to g.
+fn in_range(s: Street, raised: u32, width: u32) -> Verdict
+    requires { ⌜ Raised s raised ⌝ }
+    ensures { λ r. ⌜ r ≡ widthCheck (timedStreet s) width ⌝ }
+{
+    let most = widest(s);
+    if most < width {
+        return street::refused(Code::Width, 0);
+    }
+    if width < 1 {
+        return street::refused(Code::Width, 0);
+    }
+    if width + 2 * s.cycle < raised {
+        return street::refused(Code::Width, 0);
+    }
+    Verdict::Passed
+}
+
+// Neither platoon is too long; the outbound one is judged first.
+fn short_enough(outbound: u32, inbound: u32) -> Verdict
+    ensures { λ r. ⌜ r ≡ platoonCheck outbound inbound ⌝ }
+{
+    if Street::MAX_PLATOON < outbound {
+        return street::refused(Code::Platoon, 1);
+    }
+    if Street::MAX_PLATOON < inbound {
+        return street::refused(Code::Platoon, 2);
+    }
+    Verdict::Passed
+}
+
+// The check of what a request adds to a plan's lists.
+pub fn check(s: Street, raised: u32, request: Request) -> Verdict
+    requires { ⌜ Raised s raised ⌝ }
+    ensures { λ r. ⌜ r ≡ requestCheck request (timedStreet s) ⌝ }
+{
+    match request {
+        Request::Equal => Verdict::Passed,
+        Request::Outbound(width) => in_range(s, raised, width),
+        Request::Inbound(width) => in_range(s, raised, width),
+        Request::Platoons(outbound, inbound) => short_enough(outbound, inbound),
+    }
+}
+
+// A part of a whole, rounded down.
+fn portion(whole: u32, part: u32, sum: u32) -> u32
+    requires { ⌜ (whole * part < 2 ^ 32) × (1 ≤ sum) ⌝ }
+    ensures { λ r. ⌜ r ≡ whole * part / sum ⌝ }
+{
+    whole * part / sum
+}
+
+// The width that the platoon rule gives the longer platoon, from its length and the sum of both.
+fn share(s: Street, raised: u32, longer: u32, sum: u32) -> u32
+    requires { ⌜ Raised s raised × (longer ≤ maxPlatoon) × (1 ≤ sum) × (sum ≤ 2 * maxPlatoon) ⌝ }
+    ensures { λ r. ⌜ r ≡ platoonWidth (timedStreet s) longer sum ⌝ }
+{
+    let h = 2 * s.cycle;
+    let most = widest(s);
+    if sum + 2 * h <= 2 * raised {
+        return circle::smaller(portion(2 * raised - 2 * h, longer, sum), most);
+    }
+    let width = circle::smaller(longer, most);
+    if 2 * raised <= 2 * h + width {
+        return most;
+    }
+    width
+}
+
+// The platoon rule: the longer platoon's direction is favoured, and neither when they are equal.
+fn favoured(s: Street, raised: u32, outbound: u32, inbound: u32) -> Shift
+    requires { ⌜ Raised s raised × (outbound ≤ maxPlatoon) × (inbound ≤ maxPlatoon) ⌝ }
+    ensures { λ r. ⌜ r ≡ platoonShift (timedStreet s) outbound inbound ⌝ }
+{
+    if outbound == inbound {
+        return Shift::Unmoved;
+    }
+    if inbound < outbound {
+        return Shift::Outbound(share(s, raised, outbound, outbound + inbound));
+    }
+    Shift::Inbound(share(s, raised, inbound, outbound + inbound))
+}
+
+// What a request that passed its check comes to.
+pub fn settle(s: Street, raised: u32, request: Request) -> Shift
+    requires { ⌜ Raised s raised × (requestCheck request (timedStreet s) ≡ Verdict.Passed) ⌝ }
+    ensures { λ r. ⌜ r ≡ shiftOf request (timedStreet s) ⌝ }
+{
+    match request {
+        Request::Equal => Shift::Unmoved,
+        Request::Outbound(width) => Shift::Outbound(width),
+        Request::Inbound(width) => Shift::Inbound(width),
+        Request::Platoons(outbound, inbound) => favoured(s, raised, outbound, inbound),
+    }
+}
+
+// What a width for one direction leaves the other: 2B less it, or 0.
+fn other(s: Street, raised: u32, width: u32) -> u32
+    requires { ⌜ Raised s raised × (width ≤ maxHalves) ⌝ }
+    ensures { λ r. ⌜ r ≡ otherWidth (timedStreet s) width ⌝ }
+{
+    circle::surplus(2 * raised, 4 * s.cycle + width)
+}
+
+// The two widths of a plan.
+pub fn reported(s: Street, raised: u32, shift: Shift) -> Widths
+    requires { ⌜ Raised s raised × (shiftWidth shift ≤ maxHalves) ⌝ }
+    ensures { λ r. ⌜ r ≡ widthsOf shift (timedStreet s) ⌝ }
+{
+    match shift {
+        Shift::Unmoved => {
+            let equal = circle::surplus(raised, 2 * s.cycle);
+            Widths {
+                outbound: equal,
+                inbound: equal,
+            }
+        }
+        Shift::Outbound(width) => Widths {
+            outbound: width,
+            inbound: other(s, raised, width),
+        },
+        Shift::Inbound(width) => Widths {
+            outbound: other(s, raised, width),
+            inbound: width,
+        },
+    }
+}
