@@ -1,3 +1,2 @@
 pub mod OffsetLaws
-pub mod EqualLaws
-pub mod AgreeLaws
+pub mod MovedLaws

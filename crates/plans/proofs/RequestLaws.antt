@@ -22,15 +22,14 @@ use Rattle.street.proofs.Sound.{sound, street-agrees}
 use Rattle.plans.specs.Answers.{answered}
 use Rattle.widths.specs.Moved.{shiftOf}
 use Rattle.offsets.specs.Moved.{movedOffset}
-use Rattle.plans.specs.Requests.{movedPlan}
+use Rattle.plans.specs.Requests.{movedPlan, requestChecks, written, Requested}
 use Rattle.widths.specs.Checks.{requestCheck}
-use Rattle.plans.specs.Requests.{requestChecks, written, Requested}
 use Rattle.plans.specs.declared.Plan.{Plan}
 use Rattle.plans.specs.declared.Answer.the-variants as answer
 use Rattle.widths.specs.declared.Request.{Request}
 use Rattle.widths.specs.declared.Shift.{Shift}
-use Rattle.widths.proofs.ShiftLaws.{check-agree, shift-agree, outbound-agree, inbound-agree}
-use Rattle.offsets.proofs.AgreeLaws.{moved-agree}
+use Rattle.widths.proofs.WidthLaws.{check-agree, shift-agree, outbound-agree, inbound-agree}
+use Rattle.offsets.proofs.MovedLaws.{moved-agree}
 
 -- a plan goes by the signals alone
 module _ (s z : Timed) (agree : Agree s z) (some : 0 < s .signals) where

@@ -23,8 +23,7 @@ use Rattle.sheet.specs.declared.Reading.{Reading}
 use Rattle.sheet.proofs.Form.{text-is-accepted, passed-is-text}
 use Rattle.plans.specs.Answers.{answered}
 use Rattle.offsets.specs.Moved.{movedOffset}
-use Rattle.plans.specs.Requests.{movedPlan}
-use Rattle.plans.specs.Requests.{requestChecks, requestAnswer, requestAfter, written, Requested}
+use Rattle.plans.specs.Requests.{movedPlan, requestChecks, requestAnswer, requestAfter, written, Requested}
 use Rattle.plans.specs.declared.Plan.{Plan}
 use Rattle.plans.specs.declared.Answer.{Answer}
 use Rattle.widths.specs.declared.Request.the-variants.{Equal}

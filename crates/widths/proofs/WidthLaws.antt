@@ -1,24 +1,32 @@
--- Laws of widths. The natural that the search found is B raised by the cycle, so what `circle` shows of B⁺ holds of it; the check of a requested width goes by its range; 2B
--- times a platoon fits 32 bits; and no width that a request comes to is above g, which is at most the cycle. Assumes nothing.
-use Prim.Native.Nat.{ℕ, _-_, _*_, _≤_, _<_, _^_}
-use mathlib.Core.Path.{_≡_, sym, ap}
-use mathlib.Core.Bool.{Bool}
+-- Laws of widths and requests: the search's B is circle's, raised; no width that a request comes to is above g; the platoon rule by the two lengths; and check, shift and
+-- widths go by the signals alone. Assumes nothing.
+use Prim.Native.Nat.{ℕ, _-_, _*_, _≤_, _<_, _^_, _+_}
+use mathlib.Core.Path.{_≡_, sym, ap, refl, ap₂}
+use mathlib.Core.Bool.{Bool, true, false, cond}
 use native.Mathlib.Omega.{arith}
 use native.Mathlib.Nat.{mul-le-mul}
 use Rattle.circle.specs.Signed.{orZero}
 use Rattle.circle.specs.Method.{Timed, halves}
-use Rattle.circle.specs.Moved.{g, inRange}
-use Rattle.circle.proofs.Formulas.{Fit, B⁺, B⁺-is, g-is, green-le, asked, asked-green}
+use Rattle.circle.specs.Moved.{g, inRange, platoonWidth}
+use Rattle.circle.proofs.Formulas.{Fit, B⁺, B⁺-is, g-is, green-le, asked, asked-green, Agree, equalWidth-agree, platoon-le, inRange-agree, otherWidth-agree, platoonWidth-agree}
 use Rattle.street.specs.Limits.{maxCycle, maxHalves, maxPlatoon}
-use Rattle.street.specs.Checks.{unless}
-use Rattle.street.specs.Streets.{timedStreet}
-use Rattle.street.specs.declared.Code.the-variants.{Width}
+use Rattle.street.specs.Checks.{unless, refuse, orNext}
+use Rattle.street.specs.Streets.{timedStreet, Sound}
+use Rattle.street.specs.declared.Code.the-variants.{Width, Platoon}
 use Rattle.street.specs.declared.Street.{Street}
 use Rattle.street.specs.declared.Verdict.the-variants.{Passed}
 use Rattle.street.proofs.CheckLaws.{passes}
 use Rattle.search.proofs.Leading.{fit-sound}
-use Rattle.widths.specs.Checks.{widthCheck}
-use Rattle.widths.specs.Moved.{Raised}
+use Rattle.widths.specs.Checks.{widthCheck, lengthCheck, platoonCheck, requestCheck}
+use Rattle.widths.specs.Moved.{Raised, platoonShift, shiftOf, outboundWidth, inboundWidth, shiftWidth}
+use lib.Dec.{leb, ltb, eqb}
+use borrow.Author.Tests.{leb-true, eq-eqb, ne-eqb, lt-ltb, le-ltb}
+use Rattle.street.proofs.Passed.{first-passed, rest-passed}
+use Rattle.widths.specs.declared.Request.{Request}
+use Rattle.widths.specs.declared.Shift.{Shift}
+use Rattle.widths.specs.declared.Shift.the-variants.{Unmoved, Outbound, Inbound}
+use Rattle.street.specs.declared.Verdict.the-variants as verdict
+use Rattle.widths.specs.declared.Request.the-variants as request
 
 -- B raised, as the search found it
 pub raised-is : (s : Street) (raised : ℕ) → Raised s raised → raised ≡ B⁺ (timedStreet s)
@@ -44,3 +52,79 @@ range-le s w fit e =
 
 pub widest-le : (s : Timed) → Fit s → orZero (g s) ≤ halves s
 widest-le s fit = omega (arith, green-le s fit, ap orZero (g-is s fit))
+
+-- platoons that passed are short enough
+short-enough : (place P : ℕ) → lengthCheck place P ≡ verdict.Passed → P ≤ maxPlatoon
+short-enough place P e = leb-true P maxPlatoon (go (leb P maxPlatoon) e)
+  where
+    go : (t : Bool) → cond t verdict.Passed (refuse Platoon place) ≡ verdict.Passed → t ≡ true
+    go true q = refl
+    go false q = let z : _≡_ {A = ℕ} 0 1 = cc in absurd (omega arith)
+
+pub platoons-short : (P Q : ℕ) → platoonCheck P Q ≡ verdict.Passed → (P ≤ maxPlatoon) × (Q ≤ maxPlatoon)
+unfolding platoonCheck
+platoons-short P Q e =
+    let rest = rest-passed (lengthCheck 1 P) (orNext (lengthCheck 2 Q) verdict.Passed) e in
+    (short-enough 1 P (first-passed (lengthCheck 1 P) (orNext (lengthCheck 2 Q) verdict.Passed) e), short-enough 2 Q (first-passed (lengthCheck 2 Q) verdict.Passed rest))
+
+-- the platoon rule by the two lengths
+pub favours-neither : (s : Timed) (P Q : ℕ) → P ≡ Q → Unmoved ≡ platoonShift s P Q
+unfolding platoonShift
+favours-neither s P Q same = simp (eq-eqb P Q same)
+
+pub favours-outbound : (s : Timed) (P Q w : ℕ) → (P ≡ Q → ⊥) → Q < P → w ≡ platoonWidth s P (P + Q) → Outbound w ≡ platoonShift s P Q
+unfolding platoonShift
+favours-outbound s P Q w differ longer is = simp (is, ne-eqb P Q differ, lt-ltb Q P longer)
+
+pub favours-inbound : (s : Timed) (P Q w : ℕ) → (P ≡ Q → ⊥) → P ≤ Q → w ≡ platoonWidth s Q (P + Q) → Inbound w ≡ platoonShift s P Q
+unfolding platoonShift
+favours-inbound s P Q w differ longer is = simp (is, ne-eqb P Q differ, le-ltb Q P longer)
+
+-- the platoon rule's shift is no wider than g
+platoon-shift-le : (s : Timed) (P Q : ℕ) → shiftWidth (platoonShift s P Q) ≤ orZero (g s)
+unfolding platoonShift
+platoon-shift-le s P Q = go (eqb P Q) (ltb Q P)
+  where
+    go : (t v : Bool) → shiftWidth (cond t Unmoved (cond v (Outbound (platoonWidth s P (P + Q))) (Inbound (platoonWidth s Q (P + Q))))) ≤ orZero (g s)
+    go true v = omega arith
+    go false true = platoon-le s P (P + Q)
+    go false false = platoon-le s Q (P + Q)
+
+pub shift-small : (s : Street) (asked : Request) → Sound s → requestCheck asked (timedStreet s) ≡ verdict.Passed → shiftWidth (shiftOf asked (timedStreet s)) ≤ maxHalves
+shift-small s request.Equal ok e = omega arith
+shift-small s (request.Outbound w) ok e =
+    let fit = fit-sound s ok in omega (arith, range-le (timedStreet s) w fit e, widest-le (timedStreet s) fit, ok .longest)
+shift-small s (request.Inbound w) ok e =
+    let fit = fit-sound s ok in omega (arith, range-le (timedStreet s) w fit e, widest-le (timedStreet s) fit, ok .longest)
+shift-small s (request.Platoons P Q) ok e =
+    let fit = fit-sound s ok in
+    omega (arith, platoon-shift-le (timedStreet s) P Q, widest-le (timedStreet s) fit, ok .longest)
+
+-- a request's check, shift, offsets and plan go by the signals alone
+module _ (s z : Timed) (agree : Agree s z) where
+  pub check-agree : (asked : Request) → requestCheck asked s ≡ requestCheck asked z
+  unfolding widthCheck
+  check-agree request.Equal = refl
+  check-agree (request.Outbound w) = ap (λ t. unless t Width) (inRange-agree s z agree w)
+  check-agree (request.Inbound w) = ap (λ t. unless t Width) (inRange-agree s z agree w)
+  check-agree (request.Platoons P Q) = refl
+
+  pub shift-agree : (asked : Request) → shiftOf asked s ≡ shiftOf asked z
+  unfolding platoonShift
+  shift-agree request.Equal = refl
+  shift-agree (request.Outbound w) = refl
+  shift-agree (request.Inbound w) = refl
+  shift-agree (request.Platoons P Q) =
+      ap₂ (λ (x y : ℕ). cond (eqb P Q) Unmoved (cond (ltb Q P) (Outbound x) (Inbound y)))
+      (platoonWidth-agree s z agree P (P + Q))
+      (platoonWidth-agree s z agree Q (P + Q))
+
+  pub outbound-agree : (shift : Shift) → outboundWidth shift s ≡ outboundWidth shift z
+  outbound-agree Unmoved = equalWidth-agree s z agree
+  outbound-agree (Outbound w) = refl
+  outbound-agree (Inbound w) = otherWidth-agree s z agree w
+
+  pub inbound-agree : (shift : Shift) → inboundWidth shift s ≡ inboundWidth shift z
+  inbound-agree Unmoved = equalWidth-agree s z agree
+  inbound-agree (Outbound w) = otherWidth-agree s z agree w
+  inbound-agree (Inbound w) = refl

@@ -2,19 +2,20 @@
 -- typed lists. Assumes nothing.
 use mathlib.Core.Path.{sym, ap, _∙_}
 use borrow.Author.Needs.{needs}
-use Rattle.street.specs.Lists.{typed, signals}
+use Rattle.street.specs.Lists.{Lists, typed, signals}
 use Rattle.street.specs.declared.Verdict.the-variants.{Passed}
 use Rattle.street.proofs.Sound.{verdict-checks, passed-street, passed-sound}
 use Rattle.bands.proofs.MeasureLaws.{measure-short, measure-refused, measure-surveyed}
 use Rattle.bands.proofs.measure.Statement.{statement}
 use Rattle.bands.proofs.measure.Tie as tie
 
+abbrev lists : tie.Start → Lists
+lists c = typed (c .args .cycle) (c .args .reds .now) (c .args .distances .now) (c .args .outbound .now) (c .args .inbound .now)
+
 returns : tie.Need-returns
 returns c =
     let c0 = c .before .before .before .before .before .before in
-    let l = typed (c0 .args .cycle) (c0 .args .reds .now) (c0 .args .distances .now) (c0 .args .outbound .now) (c0 .args .inbound .now) in
-    let offsets = c0 .args .offsets .now in
-    measure-short l offsets (c .if1 .taken)
+    measure-short (lists c0) (c0 .args .offsets .now) (c .if1 .taken)
 
 new-requires : tie.Need-new-requires
 new-requires c κs = search needs
@@ -28,7 +29,7 @@ enum-told c = search needs
 on-street-requires : tie.Need-on-street-requires
 on-street-requires c κs =
     let c0 = c .before .before .before .before .before .before .before .before .before .before in
-    let l = typed (c0 .args .cycle) (c0 .args .reds .now) (c0 .args .distances .now) (c0 .args .outbound .now) (c0 .args .inbound .now) in
+    let l = lists c0 in
     let offsets = c0 .args .offsets .now in
     let x = c .before .before .before .new .result in
     let passed = verdict-checks l (signals l) x Passed (c .before .before .before .new .ensures) (c .before .enum-told .given .1) in
@@ -38,14 +39,14 @@ on-street-requires c κs =
 returns-2 : tie.Need-returns-2
 returns-2 c =
     let c0 = c .before .before .before .before .before .before .before .before .before .before in
-    let l = typed (c0 .args .cycle) (c0 .args .reds .now) (c0 .args .distances .now) (c0 .args .outbound .now) (c0 .args .inbound .now) in
+    let l = lists c0 in
     let offsets = c0 .args .offsets .now in
     measure-refused l offsets _ (c .before .before .before .before .if1 .left) (verdict-checks l (signals l) (c .before .before .before .new .result) _ (c .before .before .before .new .ensures) (c .before .verdict .given .1))
 
 returns-3 : tie.Need-returns-3
 returns-3 c =
     let c0 = c .before .before .before .before .before .before .before .before .before .before .before in
-    let l = typed (c0 .args .cycle) (c0 .args .reds .now) (c0 .args .distances .now) (c0 .args .outbound .now) (c0 .args .inbound .now) in
+    let l = lists c0 in
     let offsets = c0 .args .offsets .now in
     let x = c .before .before .before .before .new .result in
     let passed = verdict-checks l (signals l) x Passed (c .before .before .before .before .new .ensures) (c .before .before .enum-told .given .1) in

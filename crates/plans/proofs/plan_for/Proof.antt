@@ -16,7 +16,7 @@ use Rattle.widths.specs.Checks.{requestCheck}
 use Rattle.offsets.specs.Steps.{Ready}
 use Rattle.widths.specs.Moved.{shiftWidth}
 use Rattle.offsets.proofs.OffsetLaws.{ready-lt, own-written}
-use Rattle.widths.proofs.ShiftLaws.{shift-small}
+use Rattle.widths.proofs.WidthLaws.{shift-small}
 use Rattle.plans.proofs.RequestLaws.{passed-room, requested-refused, asked-refused, requested-planned}
 use borrow.Author.Needs.{needs}
 use Rattle.plans.proofs.plan_for.Statement.{statement}

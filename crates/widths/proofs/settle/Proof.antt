@@ -3,7 +3,7 @@ use mathlib.Core.Path.{sym, ap, _∙_}
 use Rattle.street.specs.Streets.{timedStreet}
 use Rattle.widths.specs.Moved.{shiftOf}
 use Rattle.widths.specs.Checks.{requestCheck}
-use Rattle.widths.proofs.ShiftLaws.{platoons-short}
+use Rattle.widths.proofs.WidthLaws.{platoons-short}
 use borrow.Author.Needs.{needs}
 use Rattle.widths.proofs.settle.Statement.{statement}
 use Rattle.widths.proofs.settle.Tie as tie
