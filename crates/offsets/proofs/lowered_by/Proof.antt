@@ -1,4 +1,4 @@
--- `plans::offsets::lowered_by` meets its contract: each shift's lowering is the surplus that its arm takes. Assumes nothing.
+-- `offsets::lowered_by` meets its contract: each shift's lowering is the surplus that its arm takes. Assumes nothing.
 use mathlib.Core.Path.{sym, ap, _∙_}
 use native.Mathlib.Omega.{arith}
 use Rattle.widths.specs.Moved.{shiftWidth}

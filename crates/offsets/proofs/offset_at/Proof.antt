@@ -1,4 +1,4 @@
--- `plans::offsets::offset_at` meets its contract: the phase and the lowering join the offset's two sides, and no sum wraps. Assumes nothing.
+-- `offsets::offset_at` meets its contract: the phase and the lowering join the offset's two sides, and no sum wraps. Assumes nothing.
 use Prim.Native.Nat.{_+_, _*_, _≤_}
 use mathlib.Core.Path.{ap}
 use native.Mathlib.Omega.{arith}

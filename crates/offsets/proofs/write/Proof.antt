@@ -1,4 +1,4 @@
--- `plans::offsets::write` meets its contract. The loop's invariant: the offsets before `j` are written, and the list is as it was from there on. Assumes nothing.
+-- `offsets::write` meets its contract. The loop's invariant: the offsets before `j` are written, and the list is as it was from there on. Assumes nothing.
 use Prim.Native.Nat.{ℕ, _-_, _≤_, _<_}
 use mathlib.Core.Path.{_≡_, refl, ap, _∙_}
 use mathlib.Core.List.{_++_}

@@ -1,4 +1,4 @@
--- `plans::widths::check` meets its contract: each request's check is that of its arm. Assumes nothing.
+-- `widths::check` meets its contract: each request's check is that of its arm. Assumes nothing.
 use mathlib.Core.Path.{sym, ap, _∙_}
 use Rattle.street.specs.Streets.{timedStreet}
 use Rattle.widths.specs.Checks.{requestCheck}

@@ -1,4 +1,4 @@
--- `plans::widths::favoured` meets its contract: the two tests pick the longer platoon's direction. Assumes nothing.
+-- `widths::favoured` meets its contract: the two tests pick the longer platoon's direction. Assumes nothing.
 use Rattle.street.specs.Streets.{timedStreet}
 use Rattle.widths.proofs.WidthLaws.{favours-neither, favours-outbound, favours-inbound}
 use borrow.Author.Needs.{needs}

@@ -1,4 +1,4 @@
--- `plans::widths::in_range` meets its contract: the three tests, with B raised, decide the range. Assumes nothing.
+-- `widths::in_range` meets its contract: the three tests, with B raised, decide the range. Assumes nothing.
 use mathlib.Core.Path.{_≡_, _∙_}
 use mathlib.Core.Bool.{true, false}
 use native.Mathlib.Omega.{arith}

@@ -1,4 +1,4 @@
--- `plans::widths::other` meets its contract: 2B less the width is the surplus over the width and twice the cycle, once B is raised. Assumes nothing.
+-- `widths::other` meets its contract: 2B less the width is the surplus over the width and twice the cycle, once B is raised. Assumes nothing.
 use native.Mathlib.Omega.{arith}
 use Rattle.circle.proofs.Formulas.{other-width}
 use Rattle.street.specs.Streets.{timedStreet}

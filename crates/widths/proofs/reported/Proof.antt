@@ -1,4 +1,4 @@
--- `plans::widths::reported` meets its contract: each shift's widths are those of its arm. Assumes nothing.
+-- `widths::reported` meets its contract: each shift's widths are those of its arm. Assumes nothing.
 use mathlib.Core.Path.{_≡_, sym, ap, _∙_}
 use Prim.Native.Nat.{ℕ}
 use native.Mathlib.Omega.{arith}

@@ -1,4 +1,4 @@
--- `plans::widths::settle` meets its contract: each request's shift is that of its arm; platoons that passed are short enough. Assumes nothing.
+-- `widths::settle` meets its contract: each request's shift is that of its arm; platoons that passed are short enough. Assumes nothing.
 use mathlib.Core.Path.{sym, ap, _∙_}
 use Rattle.street.specs.Streets.{timedStreet}
 use Rattle.widths.specs.Moved.{shiftOf}

@@ -1,4 +1,4 @@
--- `plans::widths::share` meets its contract: the two tests, with B raised, take the rule's three cases, and 2B times the longest platoon fits 32 bits. Assumes nothing.
+-- `widths::share` meets its contract: the two tests, with B raised, take the rule's three cases, and 2B times the longest platoon fits 32 bits. Assumes nothing.
 use Prim.Native.Nat.{ℕ, _-_, _*_, _/_, min}
 use mathlib.Core.Path.{_≡_, sym, ap, ap₂, _∙_}
 use native.Mathlib.Omega.{arith}

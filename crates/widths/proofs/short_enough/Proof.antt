@@ -1,4 +1,4 @@
--- `plans::widths::short_enough` meets its contract: the two tests decide the definition. Assumes nothing.
+-- `widths::short_enough` meets its contract: the two tests decide the definition. Assumes nothing.
 use borrow.Author.Tests.{le-leb, lt-leb}
 use Rattle.widths.specs.Checks.{platoonCheck}
 use borrow.Author.Needs.{needs}

@@ -1,4 +1,4 @@
--- `plans::widths::widest` meets its contract. The loop's invariant: `low` is the least H - 2r of the signals before `j`, of which there is one at least. Assumes nothing.
+-- `widths::widest` meets its contract. The loop's invariant: `low` is the least H - 2r of the signals before `j`, of which there is one at least. Assumes nothing.
 use Prim.Native.Nat.{ℕ, _-_, _*_, _≤_}
 use mathlib.Core.Path.{_≡_, sym, ap, ap₂, _∙_}
 use native.Mathlib.Omega.{arith}

@@ -1,0 +1,56 @@
+//! docs/CLAIMS.md held to the repository: each file that it names is there, and each must-fail edit has its row.
+
+use compare::page::{coded, Page};
+use compare::run::repository;
+use std::fs;
+
+/// What stands between backquotes on the page.
+fn words() -> Vec<String> {
+    Page::open("CLAIMS.md")
+        .text
+        .lines()
+        .map(coded)
+        .flat_map(|words| words.lines().map(String::from).collect::<Vec<_>>())
+        .collect()
+}
+
+#[test]
+fn every_file_that_the_claims_name_is_there() {
+    let sources = [".antt", ".rt", ".rs", ".h", ".c"];
+    let words = words();
+    let named = |word: &&String| {
+        word.contains('/') && sources.iter().any(|end| word.ends_with(end)) && !word.contains('{')
+    };
+    let files: Vec<&String> = words.iter().filter(named).collect();
+    let is_there =
+        |file: &str| ["crates", "."].iter().any(|below| repository().join(below).join(file).is_file());
+    let missing: Vec<&&String> = files.iter().filter(|file| !is_there(file)).collect();
+    assert!(files.len() > 40 && missing.is_empty(), "{} files, missing: {missing:?}", files.len());
+}
+
+#[test]
+fn every_edit_has_its_row() {
+    let words = words();
+    let mut edits = 0;
+    for folder in fs::read_dir(repository().join("crates")).expect("the crates") {
+        let folder = folder.expect("a crate").path();
+        let name = folder.file_name().and_then(|name| name.to_str()).expect("a name").to_string();
+        for edit in fs::read_dir(folder.join("must-fail")).into_iter().flatten() {
+            let edit = edit.expect("an edit").path();
+            let label = edit.file_stem().and_then(|label| label.to_str()).expect("a label");
+            let full = format!("{name}/must-fail/{label}");
+            let row = [full.as_str(), label, &format!("{name}/must-fail/*")]
+                .iter()
+                .any(|text| words.iter().any(|word| word == text));
+            assert!(row, "docs/CLAIMS.md has no row for {full}");
+            edits += 1;
+        }
+    }
+    let gone = |word: &&String| {
+        word.contains("/must-fail/")
+            && !word.ends_with('*')
+            && !repository().join(format!("crates/{word}.edit")).is_file()
+    };
+    let gone: Vec<&String> = words.iter().filter(gone).collect();
+    assert!(edits > 50 && gone.is_empty(), "{edits} edits; without a file: {gone:?}");
+}
