@@ -13,7 +13,7 @@ use Rattle.street.specs.Lists.{Lists, typed}
 use Rattle.street.specs.Checks.{countCheck, cycleCheck, redCheck, distanceCheck, speedCheck}
 use Rattle.street.specs.Times.{timed}
 use Rattle.street.specs.declared.Verdict.the-variants.{Passed}
-use Rattle.bands.specs.declared.Band.{Band}
+use Rattle.stretches.specs.declared.Band.{Band}
 use Rattle.bands.specs.Measure.{Numbers, numbersOf, sizeCheck, offsetCheck, measureChecks, measuredOf, foundOr, measurementOf}
 
 -- a width and its start

@@ -6,7 +6,7 @@ use lib.ListN.{length, getD}
 use lib.Dec.{leb, eqb}
 use Rattle.circle.specs.Over.{firstBelow}
 use Rattle.circle.specs.Method.{Timed}
-use Rattle.circle.specs.Bands.{Way, width, bandStart, outboundWay, inboundWay}
+use Rattle.circle.specs.Bands.{width, outboundWay, inboundWay}
 use Rattle.street.specs.Lists.{Lists, signals}
 use Rattle.street.specs.Codes.{codeOf, placeOf}
 use Rattle.street.specs.Checks.{unless, faultAt, firstFault, cycleCheck, counts, numberChecks}
@@ -14,10 +14,11 @@ use Rattle.street.specs.Times.{timed}
 use Rattle.street.specs.declared.Code.the-variants.{Count, Offset}
 use Rattle.street.specs.declared.Verdict.{Verdict}
 use Rattle.street.specs.declared.Verdict.the-variants as verdict
-use Rattle.bands.specs.declared.Band.{Band}
+use Rattle.stretches.specs.declared.Band.{Band}
 use Rattle.bands.specs.declared.Measured.{Measured}
 use Rattle.bands.specs.declared.Measurement.{Measurement}
 use Rattle.bands.specs.declared.Measurement.the-variants as measurement
+use Rattle.stretches.specs.Stretches.{bandOf}
 
 -- 2 COUNT, for the list of offsets: it has one for each signal (01, 'Codes, in order of checking')
 unfoldable pub sizeCheck : ℕ → ℕ → Verdict
@@ -38,10 +39,6 @@ measureChecks l offsets =
     ((counts l ∷ sizeCheck (signals l) (length offsets) ∷ cycleCheck (l .cycle) ∷ [])
     ++ numberChecks l
     ++ (offsetCheck (l .cycle) offsets ∷ []))
-
--- a direction's band: its width, and the smallest start that attains it (01, 'Measuring')
-abbrev pub bandOf : Way → Band
-bandOf w = record { width = width w; start = bandStart w }
 
 -- both directions' bands under given offsets, outbound counted at signal 1 and inbound at signal n (01, 'Measuring')
 abbrev pub measuredOf : Timed → List ℕ → Measured

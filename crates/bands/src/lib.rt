@@ -1,12 +1,12 @@
 // The measure of given offsets: each direction's width, and the smallest start that attains it (01, 'Measuring').
 mod ends;
-mod stretches;
 
 use street::Code;
 use street::Refusal;
 use street::Street;
 use street::Verdict;
 use street::refused;
+pub use stretches::Band;
 ghost use mathlib.Core.Path.{_≡_};
 ghost use Prim.Native.Nat.{_≤_};
 ghost use lib.ListN.{length};
@@ -15,13 +15,6 @@ ghost use Rattle.street.specs.Lists.{typed};
 ghost use Rattle.street.specs.Streets.{timedStreet, Sound};
 ghost use Rattle.bands.specs.Search.{Placed};
 ghost use Rattle.bands.specs.Measure.{offsetCheck, measuredOf, foundOr, measurementOf};
-
-// A direction's band, in halves: its width, and the smallest start that attains it, an instant at signal 1 outbound and at
-// signal n inbound. A width of 0 has start 0.
-pub struct Band {
-    pub width: u32,
-    pub start: u32,
-}
 
 // Both directions' bands under given offsets.
 pub struct Measured {
@@ -66,9 +59,9 @@ fn bands(s: Street, offsets: &[u32]) -> Measured
     let h = 2 * s.cycle;
     let reds = s.reds;
     let out_ends = ends::ends(s, offsets, Direction::Outbound);
-    let out = stretches::band(h, n, &reds, &out_ends);
+    let out = stretches::widest(h, n, &reds, &out_ends);
     let back_ends = ends::ends(s, offsets, Direction::Inbound);
-    let back = stretches::band(h, n, &reds, &back_ends);
+    let back = stretches::widest(h, n, &reds, &back_ends);
     Measured {
         outbound: out,
         inbound: back,

@@ -13,8 +13,8 @@ mul-h c = search needs
 ends-requires : tie.Need-ends-requires
 ends-requires c κs = search needs
 
-band-requires : tie.Need-band-requires
-band-requires c κs =
+widest-requires : tie.Need-widest-requires
+widest-requires c κs =
     let c0 = c .before .before .before .before .before .before in
     let made = c .before .before .ends in
     let ok = c0 .pre .0 in
@@ -23,8 +23,8 @@ band-requires c κs =
 ends-requires-2 : tie.Need-ends-requires-2
 ends-requires-2 c κs = search needs
 
-band-requires-2 : tie.Need-band-requires-2
-band-requires-2 c κs =
+widest-requires-2 : tie.Need-widest-requires-2
+widest-requires-2 c κs =
     let c0 = c .before .before .before .before .before .before .before .before .before .before in
     let made = c .before .before .ends2 in
     let ok = c0 .pre .0 in
@@ -37,10 +37,10 @@ returns c =
     let offsets = c0 .args .offsets .now in
     let first = c .before .before .before .before .before .before .before .ends in
     let second = c .before .before .before .ends2 in
-    let out = band-way s (c0 .pre .0) Outbound offsets (first .result) (first .ensures) (c .before .before .before .before .band .result) (c .before .before .before .before .band .ensures) in
-    let back = band-way s (c0 .pre .0) Inbound offsets (second .result) (second .ensures) (c .band2 .result) (c .band2 .ensures) in
+    let out = band-way s (c0 .pre .0) Outbound offsets (first .result) (first .ensures) (c .before .before .before .before .widest .result) (c .before .before .before .before .widest .ensures) in
+    let back = band-way s (c0 .pre .0) Inbound offsets (second .result) (second .ensures) (c .widest2 .result) (c .widest2 .ensures) in
     λ i. record { outbound = out i; inbound = back i }
 
 pub bands-spec : {M : Type 1} → statement M
 bands-spec =
-    tie.close (tie.spec mul-h ends-requires band-requires ends-requires-2 band-requires-2 returns)
+    tie.close (tie.spec mul-h ends-requires widest-requires ends-requires-2 widest-requires-2 returns)

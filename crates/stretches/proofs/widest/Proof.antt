@@ -1,4 +1,4 @@
--- `bands::stretches::band` meets its contract. The loop's invariant: `best` is the best of the candidates before i. A turn holds the candidate at i against it, and the best of
+-- `stretches::widest` meets its contract. The loop's invariant: `best` is the best of the candidates before i. A turn holds the candidate at i against it, and the best of
 -- all of them is the band. The measure is the number of signals left. Assumes nothing.
 use Prim.Native.Nat.{ℕ, _-_, _≤_}
 use mathlib.Core.Path.{subst, _≡_}
@@ -6,10 +6,10 @@ use native.Mathlib.Omega.{arith}
 use lib.ListN.{getD}
 use borrow.Author.Needs.{needs}
 use Rattle.circle.proofs.Stretches.{Best, best-none}
-use Rattle.bands.specs.Search.{seenBy}
-use Rattle.bands.proofs.SearchLaws.{more-seen, best-seen}
-use Rattle.bands.proofs.stretches.band.Statement.{statement}
-use Rattle.bands.proofs.stretches.band.Tie as tie
+use Rattle.stretches.specs.Stretches.{seenBy}
+use Rattle.stretches.proofs.SearchLaws.{more-seen, best-seen}
+use Rattle.stretches.proofs.widest.Statement.{statement}
+use Rattle.stretches.proofs.widest.Tie as tie
 
 abbrev Inv-loop : tie.InvT-loop
 Inv-loop h n reds ends best₀ i₀ best i = (i ≤ n) × Best (seenBy h n (λ j. getD reds j 0) ends) i (best .width) (best .start)
@@ -62,8 +62,8 @@ returns c =
     best-seen (c0 .args .h) (c0 .args .n) red ends (c0 .pre .3) best (omega (arith, c0 .pre .1))
     (subst (λ (k : ℕ). Best (seenBy (c0 .args .h) (c0 .args .n) red ends) k (best .width) (best .start)) all (c .before .loop .inv .1))
 
-pub band-spec : {M : Type 1} → statement M
-band-spec =
+pub widest-spec : {M : Type 1} → statement M
+widest-spec =
     tie.close
     (tie.spec
     Inv-loop

@@ -1,7 +1,7 @@
--- `bands::stretches::wider` meets its contract: its three tests are the definition's. Assumes nothing.
-use Rattle.bands.proofs.SearchLaws.{wider-other, wider-best, wider-sooner, wider-still}
-use Rattle.bands.proofs.stretches.wider.Statement.{statement}
-use Rattle.bands.proofs.stretches.wider.Tie as tie
+-- `stretches::wider` meets its contract: its three tests are the definition's. Assumes nothing.
+use Rattle.stretches.proofs.SearchLaws.{wider-other, wider-best, wider-sooner, wider-still}
+use Rattle.stretches.proofs.wider.Statement.{statement}
+use Rattle.stretches.proofs.wider.Tie as tie
 
 returns : tie.Need-returns
 returns c =

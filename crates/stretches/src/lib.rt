@@ -1,13 +1,18 @@
 // The longest stretch there is, from the red ends as they are seen where a direction departs. Only red ends need be tried as starts:
 // each is held against every signal, by comparisons and differences alone.
-use crate::Band;
 use street::Street;
 ghost use mathlib.Core.Path.{_≡_};
 ghost use Prim.Native.Nat.{_≤_, _<_};
 ghost use lib.ListN.{getD};
 ghost use Rattle.street.specs.Limits.{maxSignals, maxCycle, maxHalves};
-ghost use Rattle.bands.specs.Search.{seenBy, Fitting, longestFrom, leftBy, widerOf};
-ghost use Rattle.bands.specs.Measure.{bandOf};
+ghost use Rattle.stretches.specs.Stretches.{bandOf, Fitting, seenBy, leftBy, longestFrom, widerOf};
+
+// A direction's band, in halves: its width, and the smallest start that attains it, an instant at signal 1 outbound and at
+// signal n inbound. A width of 0 has start 0.
+pub struct Band {
+    pub width: u32,
+    pub start: u32,
+}
 
 // What a red leaves of the cycle for a stretch from x on.
 fn left(h: u32, x: u32, end: u32, red: u32) -> u32
@@ -61,7 +66,7 @@ fn wider(best: Band, other: Band) -> Band
 }
 
 // The band: the widest of the stretches from the red ends, the smallest start among equals.
-pub fn band(
+pub fn widest(
     h: u32,
     n: usize,
     reds: &[u32; Street::MAX_SIGNALS],

@@ -1,4 +1,4 @@
--- `bands::stretches::longest` meets its contract. The loop's invariant: `least` is the least of the cycle and of what the reds before j leave. A turn takes the red at j in,
+-- `stretches::longest` meets its contract. The loop's invariant: `least` is the least of the cycle and of what the reds before j leave. A turn takes the red at j in,
 -- and the least of all of them is the longest stretch. The measure is the number of signals left. Assumes nothing.
 use Prim.Native.Nat.{ℕ, _-_, _≤_, _<_}
 use mathlib.Core.Logic.{⊎-elim}
@@ -8,10 +8,10 @@ use lib.ListN.{getD}
 use borrow.Author.Needs.{needs}
 use Rattle.circle.proofs.Numbers.Over.{minBelow}
 use Rattle.circle.proofs.Stretches.{left, longest-least}
-use Rattle.bands.specs.Search.{seenBy}
-use Rattle.bands.proofs.SearchLaws.{least-lower, least-still, proper-seen, left-seen}
-use Rattle.bands.proofs.stretches.longest.Statement.{statement}
-use Rattle.bands.proofs.stretches.longest.Tie as tie
+use Rattle.stretches.specs.Stretches.{seenBy}
+use Rattle.stretches.proofs.SearchLaws.{least-lower, least-still, proper-seen, left-seen}
+use Rattle.stretches.proofs.longest.Statement.{statement}
+use Rattle.stretches.proofs.longest.Tie as tie
 
 abbrev Inv-loop : tie.InvT-loop
 Inv-loop h n reds ends x least₀ j₀ least j = (j ≤ n) × (least ≡ minBelow h j (left (seenBy h n (λ k. getD reds k 0) ends) x))

@@ -1,11 +1,11 @@
--- `bands::stretches::left` meets its contract: a red and the time since it ended are at most two turns, and where they exceed one the truncated difference is 0. Assumes
+-- `stretches::left` meets its contract: a red and the time since it ended are at most two turns, and where they exceed one the truncated difference is 0. Assumes
 -- nothing.
 use native.Mathlib.Omega.{arith}
 use lib.IntN.{pos, _-ℤ_}
 use borrow.Author.Needs.{needs}
 use Rattle.circle.proofs.Numbers.{man-lt}
-use Rattle.bands.proofs.stretches.left.Statement.{statement}
-use Rattle.bands.proofs.stretches.left.Tie as tie
+use Rattle.stretches.proofs.left.Statement.{statement}
+use Rattle.stretches.proofs.left.Tie as tie
 
 mul-gone : tie.Need-mul-gone
 mul-gone c = search needs
