@@ -1,14 +1,12 @@
 // A program for tests: many requests on standard input, the reply to each on standard output with an empty line after it. Requests are
 // separated by a byte 0, and each is a request line and then a sheet's bytes. A request that is not served is a `bad request`.
-mod requests;
-
 use bands::Band;
 use bands::Measurement;
+use lines::Call;
+use lines::Line;
 use plans::Answer;
 use plans::Request;
 use printed::Printed;
-use requests::Call;
-use requests::Line;
 use sheet::Sheet;
 use street::Refusal;
 use street::Street;
@@ -17,7 +15,7 @@ ghost use Prim.Native.Nat.{_≤_};
 ghost use mathlib.Core.Path.{_≡_};
 ghost use lib.ListN.{length};
 ghost use Rattle.printed.specs.Way.{Held};
-ghost use Rattle.cases.specs.Lines.{maxEntries};
+ghost use Rattle.lines.specs.Lines.{maxEntries};
 
 // The most bytes that one run takes.
 const MAX_INPUT: usize = 65_536;
@@ -130,7 +128,7 @@ fn on_sheet(bytes: &[u8], call: Call, line: Line)
 
 // The reply to a case, with its empty line.
 fn reply(case: &[u8]) {
-    let asked = requests::request(case);
+    let asked = lines::request(case);
     let call = asked.call;
     let line = asked.line;
     let at = line.at;

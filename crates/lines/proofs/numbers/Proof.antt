@@ -1,11 +1,11 @@
--- `cases::requests::numbers` meets its contract. The loop's invariant: `at` lies within the bytes, and at most so many numbers are kept as fit. Assumes nothing.
+-- `lines::numbers` meets its contract. The loop's invariant: `at` lies within the bytes, and at most so many numbers are kept as fit. Assumes nothing.
 use Prim.Native.Nat.{_-_, _≤_}
 use mathlib.Core.Path.{_≡_, refl}
 use lib.ListN.{length}
 use borrow.Author.Needs.{needs}
-use Rattle.cases.specs.Lines.{maxEntries}
-use Rattle.cases.proofs.requests.numbers.Statement.{statement}
-use Rattle.cases.proofs.requests.numbers.Tie as tie
+use Rattle.lines.specs.Lines.{maxEntries}
+use Rattle.lines.proofs.numbers.Statement.{statement}
+use Rattle.lines.proofs.numbers.Tie as tie
 
 abbrev Inv-loop : tie.InvT-loop
 Inv-loop bytes from list₀ count₀ at₀ list count at = (at ≤ length bytes) × (count ≤ maxEntries) × (length list ≡ maxEntries)

@@ -1,9 +1,9 @@
--- `cases::requests::past` meets its contract. The loop's invariant: `i` is within the word. Assumes nothing.
+-- `lines::past` meets its contract. The loop's invariant: `i` is within the word. Assumes nothing.
 use Prim.Native.Nat.{_-_, _≤_}
 use lib.ListN.{length}
 use borrow.Author.Needs.{needs}
-use Rattle.cases.proofs.requests.past.Statement.{statement}
-use Rattle.cases.proofs.requests.past.Tie as tie
+use Rattle.lines.proofs.past.Statement.{statement}
+use Rattle.lines.proofs.past.Tie as tie
 
 abbrev Inv-loop : tie.InvT-loop
 Inv-loop bytes at word left i₀ i = i ≤ length word

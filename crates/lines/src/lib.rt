@@ -1,10 +1,10 @@
 // A request line: what it asks for, and how many entries are lent.
-use plans::Request;
 use street::Street;
+use widths::Request;
 ghost use Prim.Native.Nat.{_≤_};
 ghost use lib.ListN.{length};
 ghost use mathlib.Core.Path.{_≡_};
-ghost use Rattle.cases.specs.Lines.{maxEntries};
+ghost use Rattle.lines.specs.Lines.{maxEntries};
 
 // What a line asks for: a plan, or the measure of its numbers as offsets. A line that is not served is bad.
 pub enum Call {
