@@ -21,11 +21,11 @@ use Rattle.street.specs.declared.Street.{Street}
 use Rattle.street.proofs.Sound.{street-agrees}
 use Rattle.street.specs.declared.Verdict.the-variants as verdict
 use Rattle.stretches.specs.declared.Band.{Band}
+use Rattle.stretches.specs.Stretches.{bandOf}
 use Rattle.bands.specs.declared.Direction.{Direction}
 use Rattle.bands.specs.declared.Measurement.{Measurement}
 use Rattle.bands.specs.Search.{lagOf, endOf, seen}
 use Rattle.bands.specs.Measure.{offsetCheck, measuredOf, foundOr, measurementOf}
-use Rattle.stretches.specs.Stretches.{bandOf}
 use Rattle.bands.specs.declared.Measurement.the-variants as measurement
 use Rattle.bands.proofs.SearchLaws.{OnCycle, seen-alike, band-alike}
 use Rattle.bands.proofs.CheckLaws.{checks-short, checks-full}

@@ -12,9 +12,9 @@ use Rattle.circle.proofs.Numbers.{man-lt, man-is, man-turns}
 use Rattle.circle.proofs.Stretches.{from, past, Alike, width-alike, start-alike}
 use Rattle.street.specs.Streets.{timedStreet, Sound}
 use Rattle.street.specs.declared.Street.{Street}
-use Rattle.bands.specs.Search.{seen}
 use Rattle.stretches.specs.Stretches.{Fitting}
 use Rattle.stretches.specs.Stretches.{bandOf}
+use Rattle.bands.specs.Search.{seen}
 
 -- an instant on the cycle for each signal, from 0 to H - 1
 pub record OnCycle (s : Street) (ends : List ℕ) : Type 0 where

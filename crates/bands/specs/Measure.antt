@@ -15,10 +15,10 @@ use Rattle.street.specs.declared.Code.the-variants.{Count, Offset}
 use Rattle.street.specs.declared.Verdict.{Verdict}
 use Rattle.street.specs.declared.Verdict.the-variants as verdict
 use Rattle.stretches.specs.declared.Band.{Band}
+use Rattle.stretches.specs.Stretches.{bandOf}
 use Rattle.bands.specs.declared.Measured.{Measured}
 use Rattle.bands.specs.declared.Measurement.{Measurement}
 use Rattle.bands.specs.declared.Measurement.the-variants as measurement
-use Rattle.stretches.specs.Stretches.{bandOf}
 
 -- 2 COUNT, for the list of offsets: it has one for each signal (01, 'Codes, in order of checking')
 unfoldable pub sizeCheck : ℕ → ℕ → Verdict

@@ -9,9 +9,9 @@ use Rattle.circle.specs.Method.{Timed, halves}
 use Rattle.circle.specs.Bands.{Way}
 use Rattle.street.specs.Streets.{timedStreet}
 use Rattle.street.specs.declared.Street.{Street}
+use Rattle.stretches.specs.Stretches.{seenBy}
 use Rattle.bands.specs.declared.Direction.{Direction}
 use Rattle.bands.specs.declared.Direction.the-variants.{Outbound, Inbound}
-use Rattle.stretches.specs.Stretches.{seenBy}
 
 -- how long after its departure a car is at a signal, in halves, from the signal's travel times and the last signal's inbound one (01, 'Red, departure, band')
 abbrev pub lagBy : Direction → ℕ → ℕ → ℕ → ℕ

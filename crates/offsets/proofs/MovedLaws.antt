@@ -6,9 +6,9 @@ use Rattle.circle.specs.Method.{Timed, halves, reference, offset}
 use Rattle.circle.specs.Moved.{lowered}
 use Rattle.circle.proofs.Numbers.{man-is}
 use Rattle.circle.proofs.Formulas.{offset-lt, Agree, outboundLowering-agree, inboundLowering-agree, lowered-agree}
-use Rattle.offsets.specs.Moved.{movedOffset, lowering}
 use Rattle.widths.specs.declared.Shift.the-variants.{Unmoved, Outbound, Inbound}
 use Rattle.widths.specs.declared.Shift.{Shift}
+use Rattle.offsets.specs.Moved.{movedOffset, lowering}
 
 pub unmoved-offset : (s : Timed) (j : ℕ) → 0 < s .cycle → movedOffset Unmoved s j ≡ offset s (reference s) j
 unfolding lowered

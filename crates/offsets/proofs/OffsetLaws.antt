@@ -21,15 +21,15 @@ use Rattle.street.specs.Limits.{maxTime}
 use Rattle.street.specs.Streets.{timedStreet, Sound}
 use Rattle.street.specs.declared.Street.{Street}
 use Rattle.search.specs.Search.{pairOf}
-use Rattle.offsets.specs.Moved.{lowering, movedOffset}
-use Rattle.offsets.specs.Steps.{Ready, choiceBy, betterOf, choiceOf, loweringOf, offsetAt}
-use Rattle.widths.specs.Moved.{shiftWidth}
-use Rattle.offsets.specs.declared.Choice.{Choice}
-use Rattle.widths.specs.declared.Shift.{Shift}
-use Rattle.widths.specs.declared.Shift.the-variants.{Unmoved, Outbound, Inbound}
 use Rattle.search.proofs.Pairs.{Pair, pair-widths}
 use Rattle.search.proofs.Leading.{fit-sound}
+use Rattle.widths.specs.Moved.{shiftWidth}
+use Rattle.widths.specs.declared.Shift.{Shift}
+use Rattle.widths.specs.declared.Shift.the-variants.{Unmoved, Outbound, Inbound}
 use Rattle.widths.proofs.WidthLaws.{raised-is}
+use Rattle.offsets.specs.Moved.{lowering, movedOffset}
+use Rattle.offsets.specs.Steps.{Ready, choiceBy, betterOf, choiceOf, loweringOf, offsetAt}
+use Rattle.offsets.specs.declared.Choice.{Choice}
 
 -- a raised width and its red have a u on the cycle in them
 abbrev pub HasU : ℕ → ℕ → ℕ → Type 0

@@ -1,20 +1,20 @@
 -- What the functions of this crate say of their numbers, in the method's terms.
 use Prim.Native.Nat.{ℕ, _+_, _-_, _*_}
 use mathlib.Core.Bool.{cond, Bool}
-use Rattle.circle.specs.Method.{reference}
-use Rattle.widths.specs.declared.Shift.{Shift}
-use Rattle.widths.specs.declared.Shift.the-variants.{Unmoved, Outbound, Inbound}
 use mathlib.Core.Path.{_≡_}
 use mathlib.Core.List.{List}
 use lib.Dec.{leb}
 use lib.IntN.{pos, _-ℤ_}
 use lib.ListN.{getD}
+use Rattle.circle.specs.Method.{reference}
 use Rattle.circle.specs.Man.{man}
 use Rattle.street.specs.Streets.{timedStreet}
 use Rattle.street.specs.declared.Street.{Street}
 use Rattle.search.specs.Search.{Reduced, pairOf}
-use Rattle.offsets.specs.declared.Choice.{Choice}
+use Rattle.widths.specs.declared.Shift.{Shift}
+use Rattle.widths.specs.declared.Shift.the-variants.{Unmoved, Outbound, Inbound}
 use Rattle.widths.specs.Moved.{Raised}
+use Rattle.offsets.specs.declared.Choice.{Choice}
 
 -- what a plan is made from: a sound street, its signals' places on the cycle, its reference and its B
 pub record Ready (s : Street) (x : List ℕ) (c raised : ℕ) : Type 0 where

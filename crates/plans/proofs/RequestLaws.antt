@@ -19,17 +19,17 @@ use Rattle.street.specs.declared.Verdict.the-variants as verdict
 use Rattle.street.specs.declared.Refusal.{Refusal}
 use Rattle.street.proofs.Passed.{clear}
 use Rattle.street.proofs.Sound.{sound, street-agrees}
-use Rattle.plans.specs.Answers.{answered}
 use Rattle.widths.specs.Moved.{shiftOf}
-use Rattle.offsets.specs.Moved.{movedOffset}
-use Rattle.plans.specs.Requests.{movedPlan, requestChecks, written, Requested}
 use Rattle.widths.specs.Checks.{requestCheck}
-use Rattle.plans.specs.declared.Plan.{Plan}
-use Rattle.plans.specs.declared.Answer.the-variants as answer
 use Rattle.widths.specs.declared.Request.{Request}
 use Rattle.widths.specs.declared.Shift.{Shift}
 use Rattle.widths.proofs.WidthLaws.{check-agree, shift-agree, outbound-agree, inbound-agree}
+use Rattle.offsets.specs.Moved.{movedOffset}
 use Rattle.offsets.proofs.MovedLaws.{moved-agree}
+use Rattle.plans.specs.Answers.{answered}
+use Rattle.plans.specs.Requests.{movedPlan, requestChecks, written, Requested}
+use Rattle.plans.specs.declared.Plan.{Plan}
+use Rattle.plans.specs.declared.Answer.the-variants as answer
 
 -- a plan goes by the signals alone
 module _ (s z : Timed) (agree : Agree s z) (some : 0 < s .signals) where

@@ -12,12 +12,12 @@ use Rattle.street.specs.Checks.{planChecks}
 use Rattle.street.specs.Times.{timed}
 use Rattle.street.specs.declared.Verdict.the-variants.{Passed}
 use Rattle.street.proofs.Passed.{clear}
-use Rattle.offsets.specs.Moved.{lowering, movedOffset}
-use Rattle.widths.specs.declared.Shift.{Shift}
 use Rattle.street.specs.Lists.{Lists}
+use Rattle.widths.specs.declared.Shift.{Shift}
+use Rattle.widths.specs.declared.Request.{Request}
+use Rattle.offsets.specs.Moved.{lowering, movedOffset}
 use Rattle.plans.specs.Requests.{Requested}
 use Rattle.plans.specs.declared.Answer.{Answer}
-use Rattle.widths.specs.declared.Request.{Request}
 
 -- one reply, and one final list
 pub record Same (r r′ : Answer) (exit exit′ : List ℕ) : Type 0 where

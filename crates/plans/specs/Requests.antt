@@ -1,23 +1,23 @@
 -- What a call with a request answers, and what it leaves in the lent offset list (01, 'The equal plan', 'Moving width' and 'Codes, in order of checking').
 use Prim.Native.Nat.{ℕ, _+_}
-use Rattle.circle.specs.Method.{Timed, B, reference, redEnd, redStart}
-use Rattle.plans.specs.declared.Plan.{Plan}
-use Rattle.widths.specs.declared.Request.{Request}
-use Rattle.widths.specs.declared.Shift.{Shift}
 use mathlib.Core.Path.{_≡_}
 use mathlib.Core.List.{List, [], _∷_, _++_}
 use lib.ListN.{length, drop}
+use Rattle.circle.specs.Method.{Timed, B, reference, redEnd, redStart}
 use Rattle.circle.specs.Over.{listBelow}
 use Rattle.street.specs.Lists.{Lists, signals}
 use Rattle.street.specs.Checks.{firstFault, planChecks}
 use Rattle.street.specs.Times.{timed, m}
 use Rattle.street.specs.declared.Verdict.{Verdict}
 use Rattle.street.specs.declared.Verdict.the-variants.{Passed, Refused}
-use Rattle.plans.specs.Answers.{answered}
-use Rattle.plans.specs.declared.Answer.{Answer}
+use Rattle.widths.specs.declared.Request.{Request}
+use Rattle.widths.specs.declared.Shift.{Shift}
 use Rattle.widths.specs.Moved.{shiftOf, outboundWidth, inboundWidth}
 use Rattle.widths.specs.Checks.{requestCheck}
 use Rattle.offsets.specs.Moved.{movedOffset}
+use Rattle.plans.specs.declared.Plan.{Plan}
+use Rattle.plans.specs.Answers.{answered}
+use Rattle.plans.specs.declared.Answer.{Answer}
 
 -- the plan's numbers: the reference counted from 1, B, both widths, m, and the named bands' instants at c, whose red moved with its offset
 abbrev pub movedPlan : Shift → Timed → ℕ → Plan

@@ -13,8 +13,7 @@ ghost use Rattle.street.specs.Limits.{maxHalves};
 ghost use Rattle.street.specs.Lists.{typed};
 ghost use Rattle.street.specs.Streets.{timedStreet};
 ghost use Rattle.offsets.specs.Moved.{movedOffset};
-ghost use Rattle.plans.specs.Requests.{movedPlan};
-ghost use Rattle.plans.specs.Requests.{Requested};
+ghost use Rattle.plans.specs.Requests.{movedPlan, Requested};
 ghost use Rattle.widths.specs.Moved.{Raised, shiftWidth};
 
 // A plan's numbers. The reference c is counted from 1. B and the widths are in halves, and B can be negative. `rounded` is m,

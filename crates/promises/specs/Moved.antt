@@ -7,9 +7,9 @@ use Rattle.circle.specs.Method.{Timed, inUnits}
 use Rattle.circle.specs.Bands.{width, outboundWay, inboundWay}
 use Rattle.circle.specs.Moved.{inRange, otherWidth}
 use Rattle.widths.specs.Moved.{platoonShift, outboundWidth, inboundWidth}
-use Rattle.offsets.specs.Moved.{movedOffset}
 use Rattle.widths.specs.declared.Shift.{Shift}
 use Rattle.widths.specs.declared.Shift.the-variants.{Unmoved, Outbound, Inbound}
+use Rattle.offsets.specs.Moved.{movedOffset}
 use Rattle.promises.specs.Rounded.{BandsClear}
 
 -- a shift to a width in range; the equal plan asks for none

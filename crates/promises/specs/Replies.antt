@@ -9,13 +9,13 @@ use Rattle.circle.specs.Bands.{clear, width, outboundWay, inboundWay}
 use Rattle.street.specs.Lists.{Lists, signals}
 use Rattle.street.specs.Checks.{planChecks}
 use Rattle.street.specs.Times.{timed, m}
-use Rattle.plans.specs.Answers.{verdictOf, numbersOf}
 use Rattle.widths.specs.Moved.{shiftOf}
-use Rattle.plans.specs.Requests.{Requested}
-use Rattle.plans.specs.declared.Answer.{Answer}
 use Rattle.widths.specs.declared.Request.{Request}
 use Rattle.widths.specs.declared.Request.the-variants.{Equal}
 use Rattle.widths.specs.declared.Shift.{Shift}
+use Rattle.plans.specs.Answers.{verdictOf, numbersOf}
+use Rattle.plans.specs.Requests.{Requested}
+use Rattle.plans.specs.declared.Answer.{Answer}
 use Rattle.promises.specs.Rounded.{InsideFrom, InsideTo}
 use Rattle.promises.specs.Moved.{Firm}
 

@@ -15,13 +15,13 @@ use Rattle.street.specs.Lists.{Lists, signals}
 use Rattle.street.specs.Checks.{planChecks}
 use Rattle.street.specs.Times.{linkLength, timed, m}
 use Rattle.street.specs.declared.Verdict.the-variants.{Passed}
-use Rattle.plans.specs.Answers.{numbersOf}
-use Rattle.plans.specs.Requests.{Requested}
 use Rattle.widths.specs.Moved.{shiftOf}
-use Rattle.plans.specs.declared.Answer.{Answer}
 use Rattle.widths.specs.declared.Request.{Request}
 use Rattle.widths.specs.declared.Shift.{Shift}
 use Rattle.widths.specs.declared.Shift.the-variants.{Unmoved, Outbound, Inbound}
+use Rattle.plans.specs.Answers.{numbersOf}
+use Rattle.plans.specs.Requests.{Requested}
+use Rattle.plans.specs.declared.Answer.{Answer}
 use Rattle.promises.specs.Exact.{Fine, exactLink, exactOutbound, exactInbound}
 use Rattle.promises.specs.Moved.{Firm}
 

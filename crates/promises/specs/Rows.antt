@@ -9,10 +9,10 @@ use Rattle.circle.specs.Bands.{width}
 use Rattle.street.specs.Lists.{Lists}
 use Rattle.street.specs.declared.Code.{Code}
 use Rattle.street.specs.declared.Code.the-variants.{Platoon, Width}
-use Rattle.plans.specs.declared.Answer.{Answer}
-use Rattle.plans.specs.declared.Answer.the-variants.{Planned, Refused}
 use Rattle.widths.specs.declared.Request.{Request}
 use Rattle.widths.specs.declared.Request.the-variants.{Equal, Outbound, Inbound, Platoons}
+use Rattle.plans.specs.declared.Answer.{Answer}
+use Rattle.plans.specs.declared.Answer.the-variants.{Planned, Refused}
 use Rattle.plans.specs.Requests.{requestAnswer, requestAfter}
 use Rattle.promises.specs.Exact.{Fine, exactOutbound, exactInbound}
 use Rattle.promises.specs.Rounding.{NoneBeats}

@@ -9,6 +9,7 @@ use native.Mathlib.Omega.{arith}
 use native.Mathlib.Numerals.{add-one}
 use lib.ListN.{length, take, drop, set, replicate, length-set, take-append-drop}
 use lib.Seq.{append-snoc, take-suc-set, drop-set-lt, length-take-le, drop-drop}
+use Rattle.street.specs.Limits.{maxSignals}
 use Rattle.street.specs.declared.Code.{Code}
 use Rattle.street.specs.declared.Code.the-variants.{Sheet}
 use Rattle.sheet.specs.declared.Number.{Number}
@@ -37,12 +38,12 @@ prepend-above xs ys x y (fault c) = refl
 pub stopped : (s : List ℕ) (r : Columns) (code : Code) (l : Lines) → r .end ≡ Fault code → l ≡ fault code → columns s r ≡ inArrays l
 stopped s r code l e q = ap (λ (t : Stand). columnsTo s t (r .lines) (r .left) (r .right)) e ∙ sym (ap inArrays q)
 
--- an array of 32 entries of which i are in use: 0 from there on
+-- an array of a street's entries of which i are in use: 0 from there on
 pub record Filled (i : ℕ) (xs : List ℕ) : Type 0 where
-  pub size : length xs ≡ 32
-  pub zeros : drop i xs ≡ drop i (replicate 32 0)
+  pub size : length xs ≡ maxSignals
+  pub zeros : drop i xs ≡ drop i (replicate maxSignals 0)
 
-pub filled-more : (i x : ℕ) (xs : List ℕ) → i < 32 → Filled i xs → Filled (i + 1) (set xs i x)
+pub filled-more : (i x : ℕ) (xs : List ℕ) → i < maxSignals → Filled i xs → Filled (i + 1) (set xs i x)
 filled-more i x xs h f =
     record {
       size = length-set xs i x ∙ f .size;
@@ -50,25 +51,25 @@ filled-more i x xs h f =
           (drop-set-lt (suc i) xs i x (omega arith)
           ∙ sym (tail xs)
           ∙ ap (drop 1) (f .zeros)
-          ∙ tail (replicate 32 0));
+          ∙ tail (replicate maxSignals 0));
     }
   where
     tail : (ys : List ℕ) → drop 1 (drop i ys) ≡ drop (suc i) ys
     tail ys = drop-drop 1 i ys ∙ ap (λ (k : ℕ). drop k ys) (add-one i)
 
-pub filled-take : (i x : ℕ) (xs : List ℕ) → i < 32 → Filled i xs → take (i + 1) (set xs i x) ≡ take i xs ++ x ∷ []
+pub filled-take : (i x : ℕ) (xs : List ℕ) → i < maxSignals → Filled i xs → take (i + 1) (set xs i x) ≡ take i xs ++ x ∷ []
 filled-take i x xs h f = rw add-one (take-suc-set xs i x (omega arith))
 
-pub filled-padded : (n : ℕ) (xs : List ℕ) → n ≤ 32 → Filled n xs → xs ≡ padded (take n xs)
+pub filled-padded : (n : ℕ) (xs : List ℕ) → n ≤ maxSignals → Filled n xs → xs ≡ padded (take n xs)
 filled-padded n xs h f =
     sym (take-append-drop n xs)
-    ∙ ap (λ (z : List ℕ). take n xs ++ z) (f .zeros ∙ ap (λ (k : ℕ). drop k (replicate 32 0)) (sym size))
+    ∙ ap (λ (z : List ℕ). take n xs ++ z) (f .zeros ∙ ap (λ (k : ℕ). drop k (replicate maxSignals 0)) (sym size))
   where
     size : length (take n xs) ≡ n
     size = length-take-le n xs (omega (arith, f .size))
 
 -- all the lines are in the arrays
-all-in : (n : ℕ) (left right rest : List ℕ) → n ≤ 32 → Filled n left → Filled n right →
+all-in : (n : ℕ) (left right rest : List ℕ) → n ≤ maxSignals → Filled n left → Filled n right →
     arrays n left right rest ≡ inArrays (prepend (take n left) (take n right) (lines [] [] rest))
 all-in n left right rest h f g =
     simp append-nil
@@ -81,7 +82,7 @@ pub record SoFar (s : List ℕ) (from count : ℕ) (left right : List ℕ) (at i
   pub lefts : Filled i left
   pub rights : Filled i right
 
-pub so-far-none : (s : List ℕ) (from count : ℕ) → SoFar s from count (replicate 32 0) (replicate 32 0) from 0
+pub so-far-none : (s : List ℕ) (from count : ℕ) → SoFar s from count (replicate maxSignals 0) (replicate maxSignals 0) from 0
 so-far-none s from count =
     record {
       within = omega arith;
@@ -94,7 +95,7 @@ so-far-none s from count =
 pub record Turn (s : List ℕ) (from count : ℕ) (left right : List ℕ) (at i : ℕ) : Type 0 where
   pub so-far : SoFar s from count left right at i
   pub left-over : i < count
-  pub few : count ≤ 32
+  pub few : count ≤ maxSignals
 
 module _ {s : List ℕ} {from count : ℕ} {left right : List ℕ} {at i : ℕ} (v : Turn s from count left right at i) where
   one-more : count - i ≡ suc (count - (i + 1))
@@ -121,7 +122,7 @@ module _ {s : List ℕ} {from count : ℕ} {left right : List ℕ} {at i : ℕ} 
         SoFar s from count (set left i x) (set right i y) end (i + 1)
     unfolding pairs
     one-line {y} end q =
-        let room : i < 32 = omega (arith, v .left-over, v .few) in
+        let room : i < maxSignals = omega (arith, v .left-over, v .few) in
         let line : pairs (count - i) (drop at s) ≡ above x y (pairs (count - (i + 1)) (drop end s)) = rw (one-more, p, q) refl in
         record {
           within = omega (arith, v .left-over);
@@ -138,7 +139,7 @@ module _ {s : List ℕ} {from count : ℕ} {left right : List ℕ} {at i : ℕ} 
         }
 
 -- no line is left
-pub so-far-all : {s : List ℕ} {from count : ℕ} {left right : List ℕ} {at i : ℕ} → SoFar s from count left right at i → count ≤ 32 → count ≤ i →
+pub so-far-all : {s : List ℕ} {from count : ℕ} {left right : List ℕ} {at i : ℕ} → SoFar s from count left right at i → count ≤ maxSignals → count ≤ i →
     arrays count left right (drop at s) ≡ inArrays (pairs count (drop from s))
 unfolding pairs
 so-far-all {s} {from} {count} {left} {right} {at} {i} v few h =

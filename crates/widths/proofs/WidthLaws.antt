@@ -5,6 +5,8 @@ use mathlib.Core.Path.{_≡_, sym, ap, refl, ap₂}
 use mathlib.Core.Bool.{Bool, true, false, cond}
 use native.Mathlib.Omega.{arith}
 use native.Mathlib.Nat.{mul-le-mul}
+use lib.Dec.{leb, ltb, eqb}
+use borrow.Author.Tests.{leb-true, eq-eqb, ne-eqb, lt-ltb, le-ltb}
 use Rattle.circle.specs.Signed.{orZero}
 use Rattle.circle.specs.Method.{Timed, halves}
 use Rattle.circle.specs.Moved.{g, inRange, platoonWidth}
@@ -16,16 +18,14 @@ use Rattle.street.specs.declared.Code.the-variants.{Width, Platoon}
 use Rattle.street.specs.declared.Street.{Street}
 use Rattle.street.specs.declared.Verdict.the-variants.{Passed}
 use Rattle.street.proofs.CheckLaws.{passes}
+use Rattle.street.proofs.Passed.{first-passed, rest-passed}
+use Rattle.street.specs.declared.Verdict.the-variants as verdict
 use Rattle.search.proofs.Leading.{fit-sound}
 use Rattle.widths.specs.Checks.{widthCheck, lengthCheck, platoonCheck, requestCheck}
 use Rattle.widths.specs.Moved.{Raised, platoonShift, shiftOf, outboundWidth, inboundWidth, shiftWidth}
-use lib.Dec.{leb, ltb, eqb}
-use borrow.Author.Tests.{leb-true, eq-eqb, ne-eqb, lt-ltb, le-ltb}
-use Rattle.street.proofs.Passed.{first-passed, rest-passed}
 use Rattle.widths.specs.declared.Request.{Request}
 use Rattle.widths.specs.declared.Shift.{Shift}
 use Rattle.widths.specs.declared.Shift.the-variants.{Unmoved, Outbound, Inbound}
-use Rattle.street.specs.declared.Verdict.the-variants as verdict
 use Rattle.widths.specs.declared.Request.the-variants as request
 
 -- B raised, as the search found it

@@ -1,16 +1,16 @@
 -- The check of what a request adds to a plan's lists (01, 'Codes, in order of checking').
 use Prim.Native.Nat.{ℕ}
 use mathlib.Core.Bool.{cond}
-use Rattle.circle.specs.Method.{Timed}
-use Rattle.widths.specs.declared.Request.{Request}
 use mathlib.Core.List.{[], _∷_}
 use lib.Dec.{leb}
+use Rattle.circle.specs.Method.{Timed}
 use Rattle.circle.specs.Moved.{inRange}
 use Rattle.street.specs.Limits.{maxPlatoon}
 use Rattle.street.specs.Checks.{refuse, unless, firstFault}
 use Rattle.street.specs.declared.Code.the-variants.{Platoon, Width}
 use Rattle.street.specs.declared.Verdict.{Verdict}
 use Rattle.street.specs.declared.Verdict.the-variants.{Passed}
+use Rattle.widths.specs.declared.Request.{Request}
 use Rattle.widths.specs.declared.Request.the-variants.{Equal, Outbound, Inbound, Platoons}
 
 -- 8 PLATOON: a platoon's length against the limit, with the place of its direction

@@ -1,17 +1,17 @@
 -- What a request comes to: a shift of the equal plan, and the two widths that are reported (01, 'Moving width'). Widths and platoons are in halves.
 use Prim.Native.Nat.{ℕ, _+_, _*_, _≤_}
 use mathlib.Core.Bool.{cond}
+use mathlib.Core.Path.{_≡_}
 use lib.Dec.{ltb, eqb}
 use Rattle.circle.specs.Method.{Timed, B, equalWidth}
 use Rattle.circle.specs.Moved.{otherWidth, platoonWidth}
+use Rattle.street.specs.Streets.{timedStreet, Sound}
+use Rattle.street.specs.declared.Street.{Street}
+use Rattle.search.specs.Search.{signedOf}
 use Rattle.widths.specs.declared.Request.{Request}
 use Rattle.widths.specs.declared.Request.the-variants as request
 use Rattle.widths.specs.declared.Shift.{Shift}
 use Rattle.widths.specs.declared.Shift.the-variants.{Unmoved, Outbound, Inbound}
-use mathlib.Core.Path.{_≡_}
-use Rattle.street.specs.Streets.{timedStreet, Sound}
-use Rattle.street.specs.declared.Street.{Street}
-use Rattle.search.specs.Search.{signedOf}
 use Rattle.widths.specs.declared.Widths.{Widths}
 
 -- B of a sound street, raised by H; B is at most H

@@ -1,8 +1,8 @@
 -- `offsets::better_phase` meets its contract: the wider of the pair, and what is taken from it does not go below 0. Assumes nothing.
 use native.Mathlib.Omega.{arith}
 use lib.ListN.{getD}
-use Rattle.offsets.proofs.OffsetLaws.{HasU, even-range, odd-range, choice-even, choice-odd}
 use borrow.Author.Needs.{needs}
+use Rattle.offsets.proofs.OffsetLaws.{HasU, even-range, odd-range, choice-even, choice-odd}
 use Rattle.offsets.proofs.better_phase.Statement.{statement}
 use Rattle.offsets.proofs.better_phase.Tie as tie
 

@@ -1,9 +1,9 @@
 -- `offsets::lowered_by` meets its contract: each shift's lowering is the surplus that its arm takes. Assumes nothing.
 use mathlib.Core.Path.{sym, ap, _∙_}
 use native.Mathlib.Omega.{arith}
+use borrow.Author.Needs.{needs}
 use Rattle.widths.specs.Moved.{shiftWidth}
 use Rattle.offsets.specs.Steps.{loweringOf}
-use borrow.Author.Needs.{needs}
 use Rattle.offsets.proofs.lowered_by.Statement.{statement}
 use Rattle.offsets.proofs.lowered_by.Tie as tie
 

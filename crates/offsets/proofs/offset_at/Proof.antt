@@ -2,10 +2,10 @@
 use Prim.Native.Nat.{_+_, _*_, _≤_}
 use mathlib.Core.Path.{ap}
 use native.Mathlib.Omega.{arith}
+use borrow.Author.Needs.{needs}
 use Rattle.street.specs.Limits.{maxCycle, maxHalves}
 use Rattle.widths.specs.Moved.{shiftWidth}
 use Rattle.offsets.proofs.OffsetLaws.{choice-small, lowering-small, offset-parts}
-use borrow.Author.Needs.{needs}
 use Rattle.offsets.proofs.offset_at.Statement.{statement}
 use Rattle.offsets.proofs.offset_at.Tie as tie
 

@@ -4,14 +4,14 @@ use mathlib.Core.Path.{_≡_, refl, ap, _∙_}
 use mathlib.Core.List.{_++_}
 use native.Mathlib.Omega.{arith}
 use lib.ListN.{length-set, length, drop}
-use Rattle.street.specs.Limits.{maxSignals}
-use Rattle.street.specs.Streets.{timedStreet}
+use borrow.Author.Needs.{needs}
 use Rattle.circle.specs.Over.{listBelow}
 use Rattle.circle.proofs.Numbers.{fill-store}
-use Rattle.offsets.specs.Moved.{movedOffset}
+use Rattle.street.specs.Limits.{maxSignals}
+use Rattle.street.specs.Streets.{timedStreet}
 use Rattle.search.proofs.Pairs.{place-lt}
+use Rattle.offsets.specs.Moved.{movedOffset}
 use Rattle.offsets.proofs.OffsetLaws.{ready-lt, side-small, offset-at-is}
-use borrow.Author.Needs.{needs}
 use Rattle.offsets.proofs.write.Statement.{statement}
 use Rattle.offsets.proofs.write.Tie as tie
 

@@ -2,16 +2,16 @@
 use Prim.Native.Nat.{_+_, _*_, _≤_, _<_}
 use mathlib.Core.Path.{_≡_, ap₂, _∙_}
 use native.Mathlib.Omega.{arith}
+use lib.ListN.{getD}
+use borrow.Author.Needs.{needs}
 use mir.Syntax.{w32}
 use mir.Val.{toZ, ofZ}
-use lib.ListN.{getD}
-use Rattle.street.specs.Limits.{maxCycle}
-use Rattle.street.specs.Streets.{timedStreet}
 use Rattle.circle.specs.Method.{B, reference, redEnd, redStart}
 use Rattle.circle.proofs.Formulas.{reference-lt}
-use Rattle.plans.proofs.SignedLaws.{reread}
+use Rattle.street.specs.Limits.{maxCycle}
+use Rattle.street.specs.Streets.{timedStreet}
 use Rattle.offsets.proofs.OffsetLaws.{moved-lt, red-end-man, red-start-man}
-use borrow.Author.Needs.{needs}
+use Rattle.plans.proofs.SignedLaws.{reread}
 use Rattle.plans.proofs.numbers.Statement.{statement}
 use Rattle.plans.proofs.numbers.Tie as tie
 

@@ -1,10 +1,11 @@
 -- `plans::plan_for` meets its contract: a refusal by the verdict of the plan's checks or of the request's; a plan by what the search, the shift, the offsets and the numbers
 -- ensure of the street that passed, carried over to the typed lists. Assumes nothing.
-use mathlib.Core.Path.{_≡_, sym, subst, _∙_}
 use Prim.Native.Nat.{ℕ, _≤_, _<_}
+use mathlib.Core.Path.{_≡_, sym, subst, _∙_}
 use mathlib.Core.List.{List}
 use native.Mathlib.Omega.{arith}
 use lib.ListN.{length}
+use borrow.Author.Needs.{needs}
 use Rattle.street.specs.Limits.{maxSignals, maxHalves}
 use Rattle.street.specs.Lists.{Lists, typed}
 use Rattle.street.specs.Checks.{planChecks}
@@ -13,12 +14,11 @@ use Rattle.street.specs.declared.Surveyed.{Surveyed}
 use Rattle.street.specs.declared.Verdict.the-variants.{Passed}
 use Rattle.street.proofs.Sound.{verdict-checks, passed-street, passed-sound}
 use Rattle.widths.specs.Checks.{requestCheck}
-use Rattle.offsets.specs.Steps.{Ready}
 use Rattle.widths.specs.Moved.{shiftWidth}
-use Rattle.offsets.proofs.OffsetLaws.{ready-lt, own-written}
 use Rattle.widths.proofs.WidthLaws.{shift-small}
+use Rattle.offsets.specs.Steps.{Ready}
+use Rattle.offsets.proofs.OffsetLaws.{ready-lt, own-written}
 use Rattle.plans.proofs.RequestLaws.{passed-room, requested-refused, asked-refused, requested-planned}
-use borrow.Author.Needs.{needs}
 use Rattle.plans.proofs.plan_for.Statement.{statement}
 use Rattle.plans.proofs.plan_for.Tie as tie
 

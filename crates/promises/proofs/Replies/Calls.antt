@@ -20,22 +20,22 @@ use Rattle.street.specs.declared.Verdict.{Verdict}
 use Rattle.street.specs.declared.Verdict.the-variants.{Passed, Refused}
 use Rattle.street.proofs.CheckLaws.{passes, code-some}
 use Rattle.street.proofs.Passed.{first-passed, rest-passed}
-use Rattle.plans.specs.Answers.{verdictOf, numbersOf, answered}
 use Rattle.widths.specs.Moved.{shiftOf, outboundWidth, inboundWidth}
-use Rattle.offsets.specs.Moved.{movedOffset}
-use Rattle.plans.specs.Requests.{movedPlan, requestChecks, written, Requested}
 use Rattle.widths.specs.Checks.{widthCheck, requestCheck}
-use Rattle.plans.specs.declared.Plan.{Plan}
-use Rattle.plans.specs.declared.Answer.{Answer}
 use Rattle.widths.specs.declared.Request.{Request}
 use Rattle.widths.specs.declared.Request.the-variants as request
 use Rattle.widths.specs.declared.Shift.{Shift}
 use Rattle.widths.specs.declared.Shift.the-variants.{Unmoved, Outbound, Inbound}
+use Rattle.offsets.specs.Moved.{movedOffset}
+use Rattle.offsets.proofs.MovedLaws.{unmoved-offset}
+use Rattle.plans.specs.Answers.{verdictOf, numbersOf, answered}
+use Rattle.plans.specs.Requests.{movedPlan, requestChecks, written, Requested}
+use Rattle.plans.specs.declared.Plan.{Plan}
+use Rattle.plans.specs.declared.Answer.{Answer}
 use Rattle.promises.specs.Exact.{Fine}
 use Rattle.promises.specs.Moved.{InRange, Firm}
 use Rattle.promises.specs.Rounding.{Short, Exactly, NamedClear, NoneBetter, ReplyKeeps}
 use Rattle.promises.specs.Replies.{EqualIsMethod}
-use Rattle.offsets.proofs.MovedLaws.{unmoved-offset}
 use Rattle.promises.proofs.Streets.Directions.{fit, bounded, rising}
 use Rattle.promises.proofs.Rounded.Moved.{Follows, equal-pattern, moved-bands, platoons-in-range}
 use Rattle.promises.proofs.Exact.Rounding.{beats, falls, kept}

@@ -15,11 +15,11 @@ use Rattle.circle.proofs.Formulas.{Fit, other-width, platoons-range}
 use Rattle.circle.proofs.Stretches.{Rising, Patterned, offset-patterned}
 use Rattle.circle.proofs.Bands.{Bounded, Bands, equal-bands, outbound-bands, inbound-bands, beside, neither, fill, fit-scaled, rising-scaled, other-scaled}
 use Rattle.street.specs.Times.{timed}
-use Rattle.offsets.proofs.MovedLaws.{unmoved-offset}
 use Rattle.widths.specs.Moved.{platoonShift, outboundWidth, inboundWidth}
-use Rattle.offsets.specs.Moved.{movedOffset}
 use Rattle.widths.specs.declared.Shift.{Shift}
 use Rattle.widths.specs.declared.Shift.the-variants.{Unmoved, Outbound, Inbound}
+use Rattle.offsets.proofs.MovedLaws.{unmoved-offset}
+use Rattle.offsets.specs.Moved.{movedOffset}
 use Rattle.promises.specs.Rounded.{OnStreets}
 use Rattle.promises.specs.Moved.{InRange, PlatoonsInRange, Firm, MovedClear, MovedMeasured, AsWideAsReported, NoneBesides}
 use Rattle.promises.proofs.Streets.Passing.{fit, bounded, bounded-fine, rising}

@@ -5,6 +5,7 @@ use mathlib.Core.Path.{_≡_, refl, _∙_}
 use Rattle.circle.specs.Over.{firstBelow, sumBelow, leastBelow, greatestBelow}
 use Rattle.circle.specs.Method.{u, pairWidth, b, B, reference, offset, equalWidth}
 use Rattle.circle.specs.Bands.{width, outboundWay, inboundWay}
+use Rattle.street.specs.Limits.{maxSignals}
 use Rattle.street.specs.Lists.{Lists}
 use Rattle.street.specs.Checks.{countCheck, roomCheck, cycleCheck, redCheck, distanceCheck, speedCheck, planChecks}
 use Rattle.street.specs.Times.{timed}
@@ -19,9 +20,9 @@ BothWide l v =
     let f = offset s (reference s) in
     (width (outboundWay s f) ≡ v) × (width (inboundWay s f) ≡ v)
 
-from-measured : (l : Lists) (v : ℕ) → planChecks l 32 ≡ Passed → equalWidth (timed l) ≡ v → BothWide l v
+from-measured : (l : Lists) (v : ℕ) → planChecks l maxSignals ≡ Passed → equalWidth (timed l) ≡ v → BothWide l v
 unfolding BothWide
-from-measured l v passed e = let m = measured l 32 passed in (m .0 ∙ e, m .1 ∙ e)
+from-measured l v passed e = let m = measured l maxSignals passed in (m .0 ∙ e, m .1 ∙ e)
 
 pub instances : BothWide (pair 600 300 30000) 600 × BothWide (pair 600 300 15000) 300 × BothWide streetA 60
 unfolding pair streetA firstBelow sumBelow leastBelow greatestBelow u pairWidth b B equalWidth countCheck roomCheck cycleCheck redCheck distanceCheck speedCheck planChecks

@@ -6,12 +6,12 @@ use native.Mathlib.Omega.{arith}
 use Rattle.circle.proofs.Formulas.{Fit}
 use Rattle.circle.proofs.Stretches.{Stops, Rising}
 use Rattle.circle.proofs.Bands.{scaled, fit-scaled, stops-scaled, rising-scaled, Bounded, bound}
+use Rattle.circle.proofs.Numbers.{sum-rises}
 use Rattle.street.specs.Lists.{Lists, signals}
 use Rattle.street.specs.Checks.{planChecks}
 use Rattle.street.specs.Times.{timed, linkTicks}
 use Rattle.street.specs.declared.Verdict.the-variants.{Passed}
 use Rattle.street.proofs.Passed.{clear}
-use Rattle.circle.proofs.Numbers.{sum-rises}
 
 module _ (l : Lists) (room : ℕ) (passed : planChecks l room ≡ Passed) where
   pub fit : Fit (timed l)

@@ -1,7 +1,7 @@
 -- `widths::favoured` meets its contract: the two tests pick the longer platoon's direction. Assumes nothing.
+use borrow.Author.Needs.{needs}
 use Rattle.street.specs.Streets.{timedStreet}
 use Rattle.widths.proofs.WidthLaws.{favours-neither, favours-outbound, favours-inbound}
-use borrow.Author.Needs.{needs}
 use Rattle.widths.proofs.favoured.Statement.{statement}
 use Rattle.widths.proofs.favoured.Tie as tie
 

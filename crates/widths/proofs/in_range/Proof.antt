@@ -2,12 +2,12 @@
 use mathlib.Core.Path.{_≡_, _∙_}
 use mathlib.Core.Bool.{true, false}
 use native.Mathlib.Omega.{arith}
+use borrow.Author.Needs.{needs}
 use Rattle.circle.specs.Method.{Timed}
 use Rattle.circle.proofs.Formulas.{Fit, green, green-is, green-le, asked-green, outside, within}
 use Rattle.street.specs.Streets.{timedStreet}
 use Rattle.search.proofs.Leading.{fit-sound}
 use Rattle.widths.proofs.WidthLaws.{raised-is, check-is}
-use borrow.Author.Needs.{needs}
 use Rattle.widths.proofs.in_range.Statement.{statement}
 use Rattle.widths.proofs.in_range.Tie as tie
 

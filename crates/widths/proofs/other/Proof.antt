@@ -1,10 +1,10 @@
 -- `widths::other` meets its contract: 2B less the width is the surplus over the width and twice the cycle, once B is raised. Assumes nothing.
 use native.Mathlib.Omega.{arith}
+use borrow.Author.Needs.{needs}
 use Rattle.circle.proofs.Formulas.{other-width}
 use Rattle.street.specs.Streets.{timedStreet}
 use Rattle.search.proofs.Leading.{fit-sound}
 use Rattle.widths.proofs.WidthLaws.{raised-is}
-use borrow.Author.Needs.{needs}
 use Rattle.widths.proofs.other.Statement.{statement}
 use Rattle.widths.proofs.other.Tie as tie
 

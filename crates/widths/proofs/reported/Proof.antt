@@ -1,15 +1,15 @@
 -- `widths::reported` meets its contract: each shift's widths are those of its arm. Assumes nothing.
-use mathlib.Core.Path.{_≡_, sym, ap, _∙_}
 use Prim.Native.Nat.{ℕ}
+use mathlib.Core.Path.{_≡_, sym, ap, _∙_}
 use native.Mathlib.Omega.{arith}
-use Rattle.street.specs.Streets.{timedStreet}
+use borrow.Author.Needs.{needs}
 use Rattle.circle.specs.Method.{equalWidth}
 use Rattle.circle.proofs.Formulas.{equal-width}
+use Rattle.street.specs.Streets.{timedStreet}
 use Rattle.search.proofs.Leading.{fit-sound}
 use Rattle.widths.specs.Moved.{shiftWidth, widthsOf}
 use Rattle.widths.specs.declared.Widths.{Widths}
 use Rattle.widths.proofs.WidthLaws.{raised-is}
-use borrow.Author.Needs.{needs}
 use Rattle.widths.proofs.reported.Statement.{statement}
 use Rattle.widths.proofs.reported.Tie as tie
 

@@ -2,12 +2,12 @@
 use Prim.Native.Nat.{ℕ, _-_, _*_, _/_, min}
 use mathlib.Core.Path.{_≡_, sym, ap, ap₂, _∙_}
 use native.Mathlib.Omega.{arith}
+use borrow.Author.Needs.{needs}
 use Rattle.circle.specs.Method.{Timed, halves}
 use Rattle.circle.proofs.Formulas.{Fit, B⁺, green, green-is, platoons-fit, platoons-crowd, platoons-rest}
 use Rattle.street.specs.Streets.{timedStreet}
 use Rattle.search.proofs.Leading.{fit-sound}
 use Rattle.widths.proofs.WidthLaws.{raised-is, product-fits}
-use borrow.Author.Needs.{needs}
 use Rattle.widths.proofs.share.Statement.{statement}
 use Rattle.widths.proofs.share.Tie as tie
 

@@ -1,7 +1,7 @@
 -- `widths::short_enough` meets its contract: the two tests decide the definition. Assumes nothing.
 use borrow.Author.Tests.{le-leb, lt-leb}
-use Rattle.widths.specs.Checks.{platoonCheck}
 use borrow.Author.Needs.{needs}
+use Rattle.widths.specs.Checks.{platoonCheck}
 use Rattle.widths.proofs.short_enough.Statement.{statement}
 use Rattle.widths.proofs.short_enough.Tie as tie
 

@@ -4,12 +4,12 @@ use mathlib.Core.Path.{_≡_, sym, ap, ap₂, _∙_}
 use native.Mathlib.Omega.{arith}
 use lib.IntN.{ℤ, pos, _-ℤ_}
 use lib.ListN.{getD}
+use borrow.Author.Needs.{needs}
 use Rattle.circle.specs.Signed.{minℤ}
 use Rattle.circle.specs.Over.{leastBelow}
 use Rattle.circle.specs.Moved.{g}
 use Rattle.circle.proofs.Numbers.{pos-less, pos-min, least-more}
 use Rattle.street.specs.declared.Street.{Street}
-use borrow.Author.Needs.{needs}
 use Rattle.widths.proofs.widest.Statement.{statement}
 use Rattle.widths.proofs.widest.Tie as tie
 

@@ -5,6 +5,7 @@ use mathlib.Core.List.{_++_}
 use native.Mathlib.Omega.{arith}
 use lib.ListN.{replicate, length, drop, getD}
 use borrow.Author.Needs.{needs}
+use Rattle.street.specs.Limits.{maxSignals}
 use Rattle.street.specs.Streets.{padded}
 use Rattle.circle.proofs.Numbers.{fill-store}
 use Rattle.circle.specs.Over.{listBelow}
@@ -12,7 +13,7 @@ use Rattle.street.proofs.times.copied.Statement.{statement}
 use Rattle.street.proofs.times.copied.Tie as tie
 
 abbrev Inv-loop : tie.InvT-loop
-Inv-loop list all₀ i₀ all i = (i ≤ length list) × (all ≡ listBelow i (λ j. getD list j 0) ++ drop i (replicate 32 0))
+Inv-loop list all₀ i₀ all i = (i ≤ length list) × (all ≡ listBelow i (λ j. getD list j 0) ++ drop i (replicate maxSignals 0))
 
 abbrev μ-loop : tie.MeasureT-loop
 μ-loop list all₀ i₀ all i = length list - i
@@ -40,7 +41,7 @@ loop-less : tie.Need-loop-less Inv-loop μ-loop
 loop-less c = search needs
 
 loop-again : tie.Need-loop-again Inv-loop μ-loop
-loop-again c = (search needs, fill-store (replicate 32 0) _ _ _ _ 0 (omega arith) (c .before .before .loop .inv .1) refl)
+loop-again c = (search needs, fill-store (replicate maxSignals 0) _ _ _ _ 0 (omega arith) (c .before .before .loop .inv .1) refl)
 
 returns : tie.Need-returns Inv-loop μ-loop
 returns c = let e : c .before .loop .i ≡ length (c .before .before .args .list .now) = omega arith in c .before .loop .inv .1 ∙ ap (λ (k : ℕ). padded k (λ j. getD (c .before .before .args .list .now) j 0)) e
