@@ -9,11 +9,11 @@ use native.Mathlib.Omega.{arith}
 use lib.ListN.{length, getD}
 use lib.Dec.{eqb}
 use borrow.Author.Tests.{eq-eqb, ne-eqb, le-leb, leb-false}
-use Rattle.circle.specs.Over.{firstBelow}
+use Rattle.circle.specs.Over.{firstBelow, _and_}
 use Rattle.circle.proofs.Numbers.{first-none}
-use Rattle.street.specs.Limits.{minSignals, maxSignals}
+use Rattle.road.specs.Limits.{minSignals, maxSignals}
 use Rattle.street.specs.Lists.{Lists, signals}
-use Rattle.street.specs.Checks.{_and_, within, refuse, unless, orNext, firstFault, countCheck, roomCheck, cycleCheck, counts, numberChecks, planChecks}
+use Rattle.street.specs.Checks.{within, refuse, unless, orNext, firstFault, countCheck, roomCheck, cycleCheck, counts, numberChecks, planChecks}
 use Rattle.street.specs.declared.Code.the-variants.{Count, Room, Offset}
 use Rattle.street.specs.declared.Street.{Street}
 use Rattle.street.specs.declared.Verdict.{Verdict}

@@ -1,17 +1,18 @@
 -- Measures worked out. On small cycles the definition computes, instant by instant: a table of them, with ties, a street with no band and refusals. Row 14 of document 01 has
 -- a cycle of 200 halves; there each direction's two candidates are worked out, and the best of them is the band. Assumes nothing.
 use Prim.Native.Nat.{ℕ, zero, suc, _*_, _≤_, _<_}
-use mathlib.Core.Path.{_≡_, refl, sym, ap, _∙_}
+use mathlib.Core.Path.{_≡_, refl, sym, ap, _∙_, subst}
 use mathlib.Core.List.{List, [], _∷_, map}
 use native.Mathlib.Omega.{arith}
 use lib.ListN.{getD}
 use Rattle.circle.specs.Over.{sumBelow, firstBelow}
 use Rattle.circle.specs.Method.{redStart}
 use Rattle.circle.specs.Bands.{Way, allBelow, greatestUpTo, clear, stretch, width, bandStart, outboundWay, inboundWay}
-use Rattle.circle.proofs.Stretches.{from, Best, IsBand, best-none, best-wider, best-stays, best-band}
+use Rattle.circle.proofs.Numbers.Over.{minBelow}
+use Rattle.circle.proofs.Stretches.{Proper, longest-least, from, Best, IsBand, best-none, best-wider, best-stays, best-band}
 use Rattle.street.specs.Lists.{Lists, typed}
 use Rattle.street.specs.Checks.{countCheck, cycleCheck, redCheck, distanceCheck, speedCheck}
-use Rattle.street.specs.Times.{timed}
+use Rattle.street.specs.Streets.{timed}
 use Rattle.street.specs.declared.Verdict.the-variants.{Passed}
 use Rattle.stretches.specs.declared.Band.{Band}
 use Rattle.bands.specs.Measure.{Numbers, numbersOf, sizeCheck, offsetCheck, measureChecks, measuredOf, foundOr, measurementOf}
@@ -69,26 +70,25 @@ reds-fit zero l = omega arith
 reds-fit (suc zero) l = omega arith
 reds-fit (suc (suc j)) l = absurd (omega arith)
 
--- outbound the first candidate has 60 from 40, and the second nothing
-out-best : Best outA 2 60 40
-unfolding redStart sumBelow allBelow greatestUpTo clear stretch
-out-best =
-    let first : 0 < from outA 0 = omega arith in
-    best-stays outA 1 60 40 (best-wider outA 0 0 0 (best-none outA) first) (omega arith) (λ e. absurd (omega arith))
-
--- inbound the first has nothing, and the second 60 from 60
-in-best : Best inA 2 60 60
-unfolding redStart sumBelow allBelow greatestUpTo clear stretch
-in-best =
-    let second : 0 < from inA 1 = omega arith in
-    best-wider inA 1 0 0 (best-stays inA 0 0 0 (best-none inA) (omega arith) (λ e. omega arith)) second
-
+-- a candidate has the least that a red leaves of the cycle: outbound the first has 60 from 40, and the second nothing from 0
 out-band : IsBand outA 60 40
+unfolding redStart sumBelow minBelow
 out-band =
-    best-band outA (record { turns = omega arith; fits = reds-fit }) 0 (omega arith) (omega arith) 60 40 out-best
+    let proper : Proper outA = record { turns = omega arith; fits = reds-fit } in
+    let first : from outA 0 ≡ 60 = longest-least outA proper 40 in
+    let second : from outA 1 ≡ 0 = longest-least outA proper 0 in
+    let one : Best outA 1 60 40 = subst (λ (v : ℕ). Best outA 1 v 40) first (best-wider outA 0 0 0 (best-none outA) (omega arith)) in
+    best-band outA proper 0 (omega arith) (omega arith) 60 40 (best-stays outA 1 60 40 one (omega arith) (λ e. absurd (omega arith)))
 
+-- inbound the first has nothing from 0, and the second 60 from 60
 in-band : IsBand inA 60 60
-in-band = best-band inA (record { turns = omega arith; fits = reds-fit }) 0 (omega arith) (omega arith) 60 60 in-best
+unfolding redStart sumBelow minBelow
+in-band =
+    let proper : Proper inA = record { turns = omega arith; fits = reds-fit } in
+    let first : from inA 0 ≡ 0 = longest-least inA proper 0 in
+    let second : from inA 1 ≡ 60 = longest-least inA proper 60 in
+    let one : Best inA 1 0 0 = best-stays inA 0 0 0 (best-none inA) (omega arith) (λ e. omega arith) in
+    best-band inA proper 0 (omega arith) (omega arith) 60 60 (subst (λ (v : ℕ). Best inA 2 v 60) second (best-wider inA 1 0 0 one (omega arith)))
 
 checks-pass : measureChecks streetA offsetsA ≡ Passed
 unfolding measureChecks countCheck sizeCheck cycleCheck redCheck distanceCheck speedCheck offsetCheck firstBelow

@@ -1,6 +1,6 @@
 -- From the street that the search works on to the measure of the typed lists. Seen from where it departs, a direction has the band of its way; the street and the lists agree
 -- at every signal, so their bands are the same. The call answers by the checks, or with these bands. Assumes nothing.
-use Prim.Native.Nat.{ℕ, _+_, _-_, _*_, _<_}
+use Prim.Native.Nat.{ℕ, _+_, _*_, _<_}
 use mathlib.Core.Path.{_≡_, sym, ap, _∙_}
 use mathlib.Core.List.{List}
 use native.Mathlib.Omega.{arith}
@@ -10,11 +10,11 @@ use Rattle.circle.specs.Method.{Timed, halves, redStart}
 use Rattle.circle.specs.Bands.{Way, outboundWay, inboundWay}
 use Rattle.circle.proofs.Numbers.{man-lt, getD-listBelow}
 use Rattle.circle.proofs.Stretches.{outbound-alike, inbound-alike}
-use Rattle.street.specs.Limits.{maxSignals}
+use Rattle.road.specs.Limits.{maxSignals}
+use Rattle.road.specs.Roads.{padded}
 use Rattle.street.specs.Lists.{Lists, signals}
 use Rattle.street.specs.Checks.{orNext, planChecks}
-use Rattle.street.specs.Times.{timed}
-use Rattle.street.specs.Streets.{padded, streetOf, timedStreet, Sound}
+use Rattle.street.specs.Streets.{timed, streetOf, timedStreet, Sound}
 use Rattle.street.specs.declared.Code.the-variants.{Count}
 use Rattle.street.specs.declared.Refusal.{Refusal}
 use Rattle.street.specs.declared.Street.{Street}

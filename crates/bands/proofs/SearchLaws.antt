@@ -1,5 +1,5 @@
 -- A sound street's reds fit its cycle, and two ways whose reds end at the same instants, seen from the departure, have the same band. Assumes nothing.
-use Prim.Native.Nat.{ℕ, _+_, _-_, _*_, _<_}
+use Prim.Native.Nat.{ℕ, _+_, _*_, _<_}
 use mathlib.Core.Path.{_≡_, refl, sym}
 use mathlib.Core.List.{List}
 use native.Mathlib.Omega.{arith}
@@ -9,11 +9,10 @@ use Rattle.circle.specs.Man.{man}
 use Rattle.circle.specs.Method.{Timed, halves, redStart}
 use Rattle.circle.specs.Bands.{Way, width}
 use Rattle.circle.proofs.Numbers.{man-lt, man-is, man-turns}
-use Rattle.circle.proofs.Stretches.{from, past, Alike, width-alike, start-alike}
+use Rattle.circle.proofs.Stretches.{past, Alike, width-alike, start-alike}
 use Rattle.street.specs.Streets.{timedStreet, Sound}
 use Rattle.street.specs.declared.Street.{Street}
-use Rattle.stretches.specs.Stretches.{Fitting}
-use Rattle.stretches.specs.Stretches.{bandOf}
+use Rattle.stretches.specs.Stretches.{Fitting, bandOf}
 use Rattle.bands.specs.Search.{seen}
 
 -- an instant on the cycle for each signal, from 0 to H - 1

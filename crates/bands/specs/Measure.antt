@@ -10,7 +10,7 @@ use Rattle.circle.specs.Bands.{width, outboundWay, inboundWay}
 use Rattle.street.specs.Lists.{Lists, signals}
 use Rattle.street.specs.Codes.{codeOf, placeOf}
 use Rattle.street.specs.Checks.{unless, faultAt, firstFault, cycleCheck, counts, numberChecks}
-use Rattle.street.specs.Times.{timed}
+use Rattle.street.specs.Streets.{timed}
 use Rattle.street.specs.declared.Code.the-variants.{Count, Offset}
 use Rattle.street.specs.declared.Verdict.{Verdict}
 use Rattle.street.specs.declared.Verdict.the-variants as verdict

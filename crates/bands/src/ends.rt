@@ -4,8 +4,9 @@ use crate::Direction;
 use street::Street;
 ghost use mathlib.Core.Path.{_≡_};
 ghost use Prim.Native.Nat.{_≤_};
-ghost use Rattle.street.specs.Limits.{maxTime};
-ghost use Rattle.street.specs.Streets.{padded, timedStreet, Sound};
+ghost use Rattle.road.specs.Limits.{maxTime};
+ghost use Rattle.road.specs.Roads.{padded};
+ghost use Rattle.street.specs.Streets.{timedStreet, Sound};
 ghost use Rattle.bands.specs.Search.{lagBy, endOf, Placed};
 
 // How long after its departure a car is at a signal, in halves. Outbound it departs at signal 1, inbound at signal n, whose inbound

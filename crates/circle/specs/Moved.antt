@@ -1,6 +1,6 @@
 -- Moving width from one direction to the other (01, 'Moving width'): the range of a request, how far each offset is lowered, what the other direction reports, and the
 -- platoon rule. Widths, lowerings and platoons are in halves.
-use Prim.Native.Nat.{ℕ, _+_, _*_, _/_, min}
+use Prim.Native.Nat.{ℕ, _*_, _/_, min}
 use mathlib.Core.Bool.{Bool, cond, false}
 use lib.IntN.{ℤ, pos, _+ℤ_, _-ℤ_}
 use lib.Dec.{eqb}

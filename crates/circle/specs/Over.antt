@@ -1,5 +1,5 @@
 -- Sums, choices and searches over the indices below a count. An index stands for a signal or a link; index 0 is number 1 on the street.
-use mathlib.Core.Bool.{Bool, cond}
+use mathlib.Core.Bool.{Bool, true, false, cond}
 use Prim.Native.Nat.{ℕ, zero, suc, _+_}
 use mathlib.Core.List.{List, [], _∷_, _++_}
 use lib.IntN.{ℤ, pos}
@@ -14,6 +14,15 @@ abbrev pub orElse : Found → Found → Found
 orElse nowhere g = g
 orElse (at i) g = at i
 
+-- both tests, and either
+abbrev pub _and_ : Bool → Bool → Bool
+p and q = cond p q false
+
+abbrev pub _or_ : Bool → Bool → Bool
+p or q = cond p true q
+
+infixr 5 _and_
+infixr 4 _or_
 -- the smallest index below n at which the test holds
 unfoldable pub firstBelow : ℕ → (ℕ → Bool) → Found
 firstBelow zero test = nowhere

@@ -9,7 +9,7 @@ use street::Street;
 use street::Verdict;
 use street::code_number;
 ghost use mathlib.Core.Path.{_≡_};
-ghost use Rattle.street.specs.Limits.{maxSignals};
+ghost use Rattle.road.specs.Limits.{maxSignals};
 ghost use Rattle.street.specs.Lists.{typed};
 ghost use Rattle.sheet.specs.Reading.{readingOf};
 ghost use Rattle.widths.specs.declared.Request.the-variants.{Equal, Outbound, Inbound, Platoons};

@@ -1,6 +1,6 @@
 -- Laws of phases and offsets: the better phase by comparing raised widths, its u from the raised width, how far a shift lowers, and an offset, a red's end and its start
 -- as the one remainder that the code takes. Assumes nothing.
-use Prim.Native.Nat.{ℕ, _+_, _-_, _*_, _≤_, _<_}
+use Prim.Native.Nat.{ℕ, _+_, _*_, _≤_, _<_}
 use mathlib.Core.Path.{_≡_, refl, sym, ap, ap₂, _∙_}
 use mathlib.Core.Bool.{Bool, true, false, cond}
 use mathlib.Core.List.{List, _++_}
@@ -17,7 +17,7 @@ use Rattle.circle.specs.Moved.{chosen, lowered}
 use Rattle.circle.proofs.Numbers.{getD-listBelow, man-lt, man-is, man-turns}
 use Rattle.circle.proofs.Formulas.{reference-lt, Fit, B⁺, phase-test, outbound-lowering, inbound-lowering}
 use Rattle.circle.proofs.Stretches.{offset-turns}
-use Rattle.street.specs.Limits.{maxTime}
+use Rattle.road.specs.Limits.{maxTime}
 use Rattle.street.specs.Streets.{timedStreet, Sound}
 use Rattle.street.specs.declared.Street.{Street}
 use Rattle.search.specs.Search.{pairOf}

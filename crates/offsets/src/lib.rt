@@ -7,11 +7,12 @@ ghost use mathlib.Core.List.{_++_};
 ghost use Prim.Native.Nat.{_*_, _≤_, _<_};
 ghost use lib.ListN.{length, drop};
 ghost use Rattle.circle.specs.Over.{listBelow};
-ghost use Rattle.street.specs.Limits.{maxCycle, maxHalves, maxTime};
+ghost use Rattle.road.specs.Limits.{maxTime};
+ghost use Rattle.street.specs.Limits.{maxCycle, maxHalves};
 ghost use Rattle.street.specs.Streets.{timedStreet};
+ghost use Rattle.widths.specs.Moved.{shiftWidth};
 ghost use Rattle.offsets.specs.Moved.{movedOffset};
 ghost use Rattle.offsets.specs.Steps.{Ready, choiceOf, loweringOf, offsetAt};
-ghost use Rattle.widths.specs.Moved.{shiftWidth};
 
 // A signal's phase against the reference, and the u of that phase.
 pub struct Choice {

@@ -3,7 +3,7 @@
 use sheet::Sheet;
 use street::Street;
 ghost use mathlib.Core.Path.{_≡_};
-ghost use Rattle.street.specs.Limits.{maxSignals};
+ghost use Rattle.road.specs.Limits.{maxSignals};
 ghost use Rattle.printed.specs.Way.{equalText};
 
 // Writes the text that answers a sheet. No contract can tell what is written; so that the text answers the bytes beside it is asked for

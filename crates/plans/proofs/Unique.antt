@@ -9,7 +9,7 @@ use Rattle.circle.specs.Method.{halves, reference, offset}
 use Rattle.circle.specs.Moved.{lowered}
 use Rattle.circle.proofs.Numbers.{man-lt}
 use Rattle.street.specs.Checks.{planChecks}
-use Rattle.street.specs.Times.{timed}
+use Rattle.street.specs.Streets.{timed}
 use Rattle.street.specs.declared.Verdict.the-variants.{Passed}
 use Rattle.street.proofs.Passed.{clear}
 use Rattle.street.specs.Lists.{Lists}

@@ -7,7 +7,7 @@ use Rattle.circle.specs.Method.{Timed, B, reference, redEnd, redStart}
 use Rattle.circle.specs.Over.{listBelow}
 use Rattle.street.specs.Lists.{Lists, signals}
 use Rattle.street.specs.Checks.{firstFault, planChecks}
-use Rattle.street.specs.Times.{timed, m}
+use Rattle.street.specs.Streets.{timed, m}
 use Rattle.street.specs.declared.Verdict.{Verdict}
 use Rattle.street.specs.declared.Verdict.the-variants.{Passed, Refused}
 use Rattle.widths.specs.declared.Request.{Request}

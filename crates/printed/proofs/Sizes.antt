@@ -5,7 +5,7 @@ use native.Mathlib.Omega.{arith}
 use mathlib.Core.List.{List, [], _∷_}
 use lib.IntN.{ℤ, pos, negsuc}
 use lib.ListN.{length, getD, length-append}
-use Rattle.street.specs.Limits.{maxSignals}
+use Rattle.road.specs.Limits.{maxSignals}
 use Rattle.street.specs.Codes.{codeNumber}
 use Rattle.street.specs.declared.Refusal.{Refusal}
 use Rattle.decimal.specs.Decimal.{signedDecimal}

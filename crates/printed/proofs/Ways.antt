@@ -11,9 +11,9 @@ use lib.Seq.{length-take-le, take-append-le, take-append-seam, take-at}
 use borrow.Author.Tests.{lt-ltb, le-ltb}
 use Rattle.circle.specs.Over.{listBelow}
 use Rattle.circle.proofs.Numbers.{length-listBelow}
-use Rattle.street.specs.Limits.{maxSignals}
+use Rattle.road.specs.Limits.{maxSignals}
 use Rattle.street.specs.Lists.{Lists, signals}
-use Rattle.street.specs.Times.{timed, m}
+use Rattle.street.specs.Streets.{timed, m}
 use Rattle.street.specs.declared.Refusal.{Refusal}
 use Rattle.street.specs.declared.Verdict.{Verdict}
 use Rattle.street.specs.declared.Verdict.the-variants.{Passed, Refused}
@@ -21,13 +21,13 @@ use Rattle.sheet.specs.Form.{Writable}
 use Rattle.sheet.specs.Reading.{Parsed, accepted, refused, parsed, padded, sheetOf, reply, readingOf}
 use Rattle.sheet.specs.declared.Reading.{Reading}
 use Rattle.sheet.proofs.Form.{text-is-accepted, passed-is-text}
-use Rattle.plans.specs.Answers.{answered}
+use Rattle.widths.specs.declared.Request.the-variants.{Equal}
+use Rattle.widths.specs.declared.Shift.the-variants.{Unmoved}
 use Rattle.offsets.specs.Moved.{movedOffset}
+use Rattle.plans.specs.Answers.{answered}
 use Rattle.plans.specs.Requests.{movedPlan, requestChecks, requestAnswer, requestAfter, written, Requested}
 use Rattle.plans.specs.declared.Plan.{Plan}
 use Rattle.plans.specs.declared.Answer.{Answer}
-use Rattle.widths.specs.declared.Request.the-variants.{Equal}
-use Rattle.widths.specs.declared.Shift.the-variants.{Unmoved}
 use Rattle.printed.specs.declared.Printed.{Printed}
 use Rattle.printed.specs.Text.{maxText, planLine, offsetLines, refusalLine, textOf, Prints}
 use Rattle.printed.specs.Way.{listsOf, lentOf, planText, answerText, equalText, Held}

@@ -5,12 +5,12 @@ use mathlib.Core.Bool.{cond}
 use mathlib.Core.List.{List}
 use lib.ListN.{length, take, replicate}
 use lib.Dec.{ltb}
-use Rattle.street.specs.Limits.{minSignals, maxSignals}
+use Rattle.road.specs.Limits.{minSignals, maxSignals}
 use Rattle.street.specs.Lists.{Lists, typed, signals}
 use Rattle.sheet.specs.declared.Sheet.{Sheet}
 use Rattle.sheet.specs.Reading.{Parsed, accepted, refused, parsed}
-use Rattle.plans.specs.Requests.{requestAnswer, requestAfter}
 use Rattle.widths.specs.declared.Request.the-variants.{Equal}
+use Rattle.plans.specs.Requests.{requestAnswer, requestAfter}
 use Rattle.printed.specs.Text.{textOf, refusalLine}
 
 -- the lists that a sheet's arrays hold

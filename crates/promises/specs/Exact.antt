@@ -9,8 +9,9 @@ use Rattle.circle.specs.Man.{man}
 use Rattle.circle.specs.Over.{sumBelow}
 use Rattle.circle.specs.Method.{halves}
 use Rattle.circle.specs.Bands.{Way}
+use Rattle.road.specs.Times.{linkLength}
 use Rattle.street.specs.Lists.{Lists, signals}
-use Rattle.street.specs.Times.{linkLength, timed}
+use Rattle.street.specs.Streets.{timed}
 
 -- a unit of N to the half, N above 0, is fine for a street where on every link each direction's speed divides 20dN, so that no exact time has a fraction (01, 'Red, departure,
 -- band')

@@ -8,7 +8,7 @@ use Rattle.circle.specs.Method.{Timed, B, reference, offset, equalWidth, redEnd
 use Rattle.circle.specs.Bands.{clear, width, outboundWay, inboundWay}
 use Rattle.street.specs.Lists.{Lists, signals}
 use Rattle.street.specs.Checks.{planChecks}
-use Rattle.street.specs.Times.{timed, m}
+use Rattle.street.specs.Streets.{timed, m}
 use Rattle.widths.specs.Moved.{shiftOf}
 use Rattle.widths.specs.declared.Request.{Request}
 use Rattle.widths.specs.declared.Request.the-variants.{Equal}

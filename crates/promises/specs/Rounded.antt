@@ -1,6 +1,6 @@
 -- What is promised of the equal plan at rounded times (01, 'Red, departure, band' and 'The equal plan'). Most statements are over a street's times; `OnStreets` makes each one about
 -- the numbers of a street as typed, and asks only that the checks of a plan find no fault in them.
-use Prim.Native.Nat.{ℕ, _+_, _-_, _*_, _≤_, _<_, min}
+use Prim.Native.Nat.{ℕ, _+_, _*_, _≤_, _<_, min}
 use mathlib.Core.Path.{_≡_}
 use mathlib.Core.Bool.{true}
 use mathlib.Core.List.{List}
@@ -11,9 +11,10 @@ use Rattle.circle.specs.Over.{sumBelow, listBelow}
 use Rattle.circle.specs.Man.{man}
 use Rattle.circle.specs.Method.{Timed, halves, inUnits, t, t′, B, reference, offset, equalWidth, redEnd, redStart}
 use Rattle.circle.specs.Bands.{Way, clear, width, outboundWay, inboundWay}
+use Rattle.road.specs.Times.{linkTicks}
 use Rattle.street.specs.Lists.{Lists, signals}
 use Rattle.street.specs.Checks.{planChecks}
-use Rattle.street.specs.Times.{timed, linkTicks}
+use Rattle.street.specs.Streets.{timed}
 use Rattle.street.specs.declared.Verdict.the-variants.{Passed}
 use Rattle.bands.specs.Measure.{measurementOf, numbersOf}
 

@@ -11,9 +11,10 @@ use Rattle.circle.specs.Man.{man}
 use Rattle.circle.specs.Method.{halves, reference, offset, equalWidth, redEnd, redStart}
 use Rattle.circle.specs.Bands.{Way, clear, width}
 use Rattle.circle.specs.Moved.{inRange, outboundLowering, inboundLowering, lowered, otherWidth, platoonWidth}
+use Rattle.road.specs.Times.{linkLength}
 use Rattle.street.specs.Lists.{Lists, signals}
 use Rattle.street.specs.Checks.{planChecks}
-use Rattle.street.specs.Times.{linkLength, timed, m}
+use Rattle.street.specs.Streets.{timed, m}
 use Rattle.street.specs.declared.Verdict.the-variants.{Passed}
 use Rattle.widths.specs.Moved.{shiftOf}
 use Rattle.widths.specs.declared.Request.{Request}

@@ -1,5 +1,5 @@
 -- Streets that attain the bounds on what rounding costs, so that nothing less could be promised, and 01's row 9 at exact times (01, 'Examples to hold it against').
-use Prim.Native.Nat.{ℕ, _+_, _-_, _*_}
+use Prim.Native.Nat.{ℕ, _+_, _*_}
 use mathlib.Core.Path.{_≡_}
 use mathlib.Core.Bool.{false}
 use mathlib.Core.List.{[], _∷_}
@@ -9,7 +9,7 @@ use Rattle.circle.specs.Method.{halves, B, reference, offset, equalWidth, redEn
 use Rattle.circle.specs.Bands.{Way, clear, width}
 use Rattle.street.specs.Lists.{Lists}
 use Rattle.street.specs.Checks.{planChecks}
-use Rattle.street.specs.Times.{timed, m}
+use Rattle.street.specs.Streets.{timed, m}
 use Rattle.street.specs.declared.Verdict.the-variants.{Passed}
 use Rattle.promises.specs.Exact.{Fine, exactOutbound, exactInbound}
 use Rattle.promises.specs.Rounding.{NoneBeats, after}

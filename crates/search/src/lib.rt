@@ -6,7 +6,8 @@ ghost use Prim.Native.Nat.{_*_, _≤_, _<_};
 ghost use lib.IntN.{pos};
 ghost use lib.ListN.{length};
 ghost use Rattle.circle.specs.Over.{leastBelow};
-ghost use Rattle.street.specs.Limits.{maxSignals, maxCycle};
+ghost use Rattle.road.specs.Limits.{maxSignals};
+ghost use Rattle.street.specs.Limits.{maxCycle};
 ghost use Rattle.street.specs.Streets.{timedStreet, Sound};
 ghost use Rattle.search.specs.Search.{pairOf, Reduced, Turning, Row, wider, Searched};
 

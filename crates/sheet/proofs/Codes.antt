@@ -7,7 +7,7 @@ use mathlib.Core.Path.{_≡_, refl, subst}
 use mathlib.Core.List.{List, [], _∷_}
 use lib.Dec.{leb}
 use lib.ListN.{length}
-use Rattle.street.specs.Limits.{minSignals, maxSignals}
+use Rattle.road.specs.Limits.{minSignals, maxSignals}
 use Rattle.street.specs.Lists.{Lists}
 use Rattle.street.specs.Checks.{within}
 use Rattle.street.specs.declared.Code.{Code}

@@ -3,7 +3,7 @@ use Prim.Native.Nat.{ℕ, _-_, _≤_, _<_, _^_}
 use mathlib.Core.Path.{_≡_}
 use mathlib.Core.List.{List, [], _∷_, _++_}
 use lib.ListN.{length}
-use Rattle.street.specs.Limits.{minSignals, maxSignals}
+use Rattle.road.specs.Limits.{minSignals, maxSignals}
 use Rattle.street.specs.Lists.{Lists, signals}
 use Rattle.decimal.specs.Decimal.{decimal}
 use Rattle.sheet.specs.Bytes.{maxBytes, space, lineEnd}

@@ -4,7 +4,7 @@ use mathlib.Core.Bool.{cond}
 use mathlib.Core.List.{List, [], _∷_, _++_}
 use lib.ListN.{length, drop, replicate}
 use lib.Dec.{leb}
-use Rattle.street.specs.Limits.{minSignals, maxSignals}
+use Rattle.road.specs.Limits.{minSignals, maxSignals}
 use Rattle.street.specs.Lists.{Lists, signals}
 use Rattle.street.specs.Checks.{refuse}
 use Rattle.street.specs.declared.Code.{Code}

@@ -3,7 +3,7 @@
 ghost use mathlib.Core.Path.{_≡_};
 ghost use Prim.Native.Nat.{_≤_};
 ghost use lib.ListN.{drop};
-ghost use Rattle.street.specs.Limits.{maxSignals};
+ghost use Rattle.road.specs.Limits.{maxSignals};
 ghost use Rattle.sheet.specs.Bytes.{maxBytes, kindOf};
 ghost use Rattle.sheet.specs.Numbers.{number, more};
 ghost use Rattle.sheet.specs.Sections.{pairs, section, cycleSection};

@@ -7,7 +7,8 @@ use native.Mathlib.Decide.{decLe}
 use lib.Dec.{leb, ltb, eqb}
 use borrow.Author.Tests.{lt-ltb, le-ltb, le-leb, lt-leb, leb-true, eqb-true}
 use Rattle.circle.proofs.Numbers.{cond-left, cond-right}
-use Rattle.street.specs.Limits.{minSignals, maxSignals, minCycle, maxCycle}
+use Rattle.road.specs.Limits.{minSignals, maxSignals}
+use Rattle.street.specs.Limits.{minCycle, maxCycle}
 use Rattle.street.specs.Checks.{within, unless, orNext, countCheck, cycleCheck}
 use Rattle.street.specs.declared.Code.{Code}
 use Rattle.street.specs.declared.Code.the-variants.{Sheet, Count, Room, Cycle, Red, Distance, Speed, Platoon, Width, Offset}

@@ -8,12 +8,13 @@ use native.Mathlib.Omega.{arith}
 use lib.ListN.{length, getD}
 use lib.Dec.{leb, ltb}
 use borrow.Author.Tests.{ltb-false, leb-false, lt-ltb, leb-true, le-leb, not-false}
-use Rattle.circle.specs.Over.{Found, nowhere, at, firstBelow}
+use Rattle.circle.specs.Over.{Found, nowhere, at, firstBelow, _or_}
 use Rattle.circle.proofs.Numbers.{first-none}
-use Rattle.street.specs.Limits.{maxSignals, minCycle, maxCycle, minRed, maxDistance, minSpeed, maxSpeed}
+use Rattle.road.specs.Limits.{maxSignals, maxDistance, minSpeed, maxSpeed}
+use Rattle.road.specs.Times.{Driveable}
+use Rattle.street.specs.Limits.{minCycle, maxCycle, minRed}
 use Rattle.street.specs.Lists.{Lists, signals}
-use Rattle.street.specs.Checks.{within, faultAt, orNext, firstFault, _or_, badRed, badDistance, badSpeed, countCheck, roomCheck, cycleCheck, redCheck, distanceCheck, speedCheck, counts, openingChecks, numberChecks, planChecks}
-use Rattle.street.specs.Times.{Driveable}
+use Rattle.street.specs.Checks.{within, faultAt, orNext, firstFault, badRed, badDistance, badSpeed, countCheck, roomCheck, cycleCheck, redCheck, distanceCheck, speedCheck, counts, openingChecks, numberChecks, planChecks}
 use Rattle.street.specs.declared.Code.{Code}
 use Rattle.street.specs.declared.Code.the-variants.{Room, Red, Distance, Speed}
 use Rattle.street.specs.declared.Refusal.{Refusal}

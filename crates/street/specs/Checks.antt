@@ -1,11 +1,12 @@
 -- Each check of a street, and the refusal of a list of checks: its first fault (01, 'Codes, in order of checking').
 use Prim.Native.Nat.{ℕ, _+_, _-_}
-use mathlib.Core.Bool.{Bool, true, false, cond, not}
+use mathlib.Core.Bool.{Bool, cond, not}
 use mathlib.Core.List.{List, [], _∷_, _++_}
 use lib.ListN.{length, getD}
 use lib.Dec.{leb, ltb, eqb}
-use Rattle.circle.specs.Over.{Found, nowhere, at, firstBelow}
-use Rattle.street.specs.Limits.{minSignals, maxSignals, minCycle, maxCycle, minRed, maxDistance, minSpeed, maxSpeed}
+use Rattle.circle.specs.Over.{Found, nowhere, at, _and_, _or_, firstBelow}
+use Rattle.road.specs.Limits.{minSignals, maxSignals, maxDistance, minSpeed, maxSpeed}
+use Rattle.street.specs.Limits.{minCycle, maxCycle, minRed}
 use Rattle.street.specs.Lists.{Lists, signals}
 use Rattle.street.specs.declared.Code.{Code}
 use Rattle.street.specs.declared.Code.the-variants.{Count, Room, Cycle, Red, Distance, Speed}
@@ -35,19 +36,10 @@ abbrev pub firstFault : List Verdict → Verdict
 firstFault [] = Passed
 firstFault (v ∷ vs) = orNext v (firstFault vs)
 
--- both tests, and either
-abbrev pub _and_ : Bool → Bool → Bool
-p and q = cond p q false
-
-abbrev pub _or_ : Bool → Bool → Bool
-p or q = cond p true q
-
 -- whether a number lies from one bound to another, both included
 abbrev pub within : ℕ → ℕ → ℕ → Bool
 within low high x = leb low x and leb x high
 
-infixr 5 _and_
-infixr 4 _or_
 -- 2 COUNT: from the lists' lengths, 1 to 32 signals, a distance for each, and two speeds for each link between neighbours
 unfoldable pub countCheck : ℕ → ℕ → ℕ → ℕ → Verdict
 countCheck n distances outbound inbound =

@@ -2,5 +2,4 @@ pub mod Limits
 pub mod Lists
 pub mod Codes
 pub mod Checks
-pub mod Times
 pub mod Streets

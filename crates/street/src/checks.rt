@@ -8,9 +8,10 @@ ghost use mathlib.Core.Path.{_≡_};
 ghost use Prim.Native.Nat.{_≤_, _<_};
 ghost use mathlib.Core.Bool.{not};
 ghost use lib.ListN.{length};
-ghost use Rattle.street.specs.Limits.{maxSignals, minSpeed, maxSpeed};
+ghost use Rattle.circle.specs.Over.{_or_};
+ghost use Rattle.road.specs.Limits.{maxSignals, minSpeed, maxSpeed};
 ghost use Rattle.street.specs.Lists.{typed};
-ghost use Rattle.street.specs.Checks.{firstFault, within, _or_, badDistance, countCheck, roomCheck, cycleCheck, redCheck, distanceCheck, speedCheck, counts, openingChecks, numberChecks, planChecks};
+ghost use Rattle.street.specs.Checks.{firstFault, within, badDistance, countCheck, roomCheck, cycleCheck, redCheck, distanceCheck, speedCheck, counts, openingChecks, numberChecks, planChecks};
 
 // The lists' lengths are judged before the number of links is formed, so no count of 0 loses 1.
 pub fn count(signals: usize, distances: usize, outbound: usize, inbound: usize) -> Verdict

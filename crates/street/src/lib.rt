@@ -1,16 +1,18 @@
-// The street: its limits, its refusal codes, each check, travel times and how many links were rounded (01, 'Units and the
-// street' and 'Codes, in order of checking').
+// The street: its limits, its refusal codes, each check, and the constructor (01, 'Units and the street' and 'Codes, in order of
+// checking').
 pub mod checks;
-mod times;
 
+use road::Road;
 ghost use mathlib.Core.Path.{_≡_};
-ghost use lib.ListN.{length};
-ghost use Rattle.street.specs.Limits.{minSignals, maxSignals, minCycle, maxCycle, minRed, maxDistance, minSpeed, maxSpeed, maxPlatoon};
+ghost use Prim.Native.Nat.{_≤_};
+ghost use lib.ListN.{length, getD};
+ghost use Rattle.road.specs.Limits.{minSignals, maxSignals, maxDistance, minSpeed, maxSpeed};
+ghost use Rattle.road.specs.Roads.{padded};
+ghost use Rattle.street.specs.Limits.{minCycle, maxCycle, minRed, maxPlatoon};
 ghost use Rattle.street.specs.Lists.{typed};
 ghost use Rattle.street.specs.Codes.{codeNumber};
 ghost use Rattle.street.specs.Checks.{refuse, planChecks};
-ghost use Rattle.street.specs.Times.{Driveable};
-ghost use Rattle.street.specs.Streets.{roadOf, surveyed, streetOf, noStreet};
+ghost use Rattle.street.specs.Streets.{surveyed, streetOf, noStreet};
 
 // The refusals of document 01, in the order of its table; `code_number` answers the number of each.
 pub enum Code {
@@ -63,15 +65,6 @@ pub fn refused(code: Code, place: u32) -> Verdict
     Verdict::Refused(Refusal { code, place })
 }
 
-// A road, which no cycle enters: how many signals, for each the outbound ticks from signal 1 to it and the inbound ticks from it to
-// signal 1, and the number of links with a rounded time. Entries from `signals` on are 0.
-pub struct Road {
-    pub signals: usize,
-    pub outbound: [u32; Street::MAX_SIGNALS],
-    pub inbound: [u32; Street::MAX_SIGNALS],
-    pub rounded: u32,
-}
-
 // A street whose checks have all passed, as the search needs it: a road, the cycle in ticks, and each signal's red in ticks.
 pub struct Street {
     pub road: Road,
@@ -85,42 +78,25 @@ pub struct Surveyed {
     pub street: Street,
 }
 
-impl Road {
-    // The road of distances and speeds that passed their checks. Each link's two times are worked out once, and m is counted from
-    // the same answers.
-    pub fn new(distances: &[u32], outbound: &[u32], inbound: &[u32]) -> Road
-        requires { ⌜ Driveable (now distances) (now outbound) × Driveable (now distances) (now inbound) ⌝ }
-        ensures { λ r. ⌜ r ≡ roadOf (length (now (distances .entry))) (now (distances .entry)) (now (outbound .entry)) (now (inbound .entry)) ⌝ }
-    {
-        let mut out = [0u32; Street::MAX_SIGNALS];
-        let mut back = [0u32; Street::MAX_SIGNALS];
-        let mut there: u32 = 0;
-        let mut home: u32 = 0;
-        let mut rounded: u32 = 0;
-        let mut k: usize = 0;
-        while k < outbound.len() {
-            let link = times::link_times(distances, outbound, inbound, k);
-            there += link.outbound;
-            home += link.inbound;
-            rounded += link.rounded;
-            k += 1;
-            out[k] = there;
-            back[k] = home;
-        }
-        Road {
-            signals: distances.len(),
-            outbound: out,
-            inbound: back,
-            rounded,
-        }
+// A list as the entries of a street.
+fn copied(list: &[u32]) -> [u32; Street::MAX_SIGNALS]
+    requires { ⌜ length (now list) ≤ maxSignals ⌝ }
+    ensures { λ r. ⌜ r ≡ padded (length (now (list .entry))) (λ j. getD (now (list .entry)) j 0) ⌝ }
+{
+    let mut all = [0u32; Street::MAX_SIGNALS];
+    let mut i: usize = 0;
+    while i < list.len() {
+        all[i] = list[i];
+        i += 1;
     }
+    all
 }
 
 impl Street {
     // Document 01's limits, written once. The largest red is the cycle less 1.
     pub const MIN_SIGNALS: usize = 1;
 
-    pub const MAX_SIGNALS: usize = 32;
+    pub const MAX_SIGNALS: usize = Road::MAX_SIGNALS;
 
     pub const MIN_CYCLE: u32 = 10;
 
@@ -167,7 +143,7 @@ impl Street {
         Street {
             road: Road::new(distances, outbound, inbound),
             cycle,
-            reds: times::copied(reds),
+            reds: copied(reds),
         }
     }
 

@@ -6,7 +6,6 @@ use lib.IntN.{pos, _-ℤ_}
 use lib.ListN.{length, getD}
 use lib.Dec.{ltb}
 use Rattle.circle.specs.Man.{man}
-use Rattle.circle.specs.Method.{halves}
 use Rattle.circle.specs.Bands.{Way, greatestUpTo, stretch, width, bandStart}
 use Rattle.street.specs.Lists.{signals}
 use Rattle.stretches.specs.declared.Band.{Band}

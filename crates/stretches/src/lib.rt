@@ -4,7 +4,8 @@ use street::Street;
 ghost use mathlib.Core.Path.{_≡_};
 ghost use Prim.Native.Nat.{_≤_, _<_};
 ghost use lib.ListN.{getD};
-ghost use Rattle.street.specs.Limits.{maxSignals, maxCycle, maxHalves};
+ghost use Rattle.road.specs.Limits.{maxSignals};
+ghost use Rattle.street.specs.Limits.{maxCycle, maxHalves};
 ghost use Rattle.stretches.specs.Stretches.{bandOf, Fitting, seenBy, leftBy, longestFrom, widerOf};
 
 // A direction's band, in halves: its width, and the smallest start that attains it, an instant at signal 1 outbound and at

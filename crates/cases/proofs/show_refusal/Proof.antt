@@ -4,14 +4,8 @@ use Rattle.printed.proofs.Ways.{text-within}
 use Rattle.cases.proofs.show_refusal.Statement.{statement}
 use Rattle.cases.proofs.show_refusal.Tie as tie
 
-answer-text-requires : tie.Need-answer-text-requires
-answer-text-requires c κs = search needs
-
 show-requires : tie.Need-show-requires
 show-requires c κs = text-within (c .answer-text .ensures)
 
-returns : tie.Need-returns
-returns c = search needs
-
 pub show-refusal-spec : {M : Type 1} → statement M
-show-refusal-spec = tie.close (tie.spec answer-text-requires show-requires returns)
+show-refusal-spec = tie.close (tie.spec (λ c κs. search needs) show-requires (λ c. search needs))

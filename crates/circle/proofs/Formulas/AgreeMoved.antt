@@ -1,6 +1,6 @@
 -- Moved plans go by the signals below the count alone: two streets that agree there have one g, one range of requests, one u for each signal, one lowering and lowered
 -- offset, and one platoon rule. Each follows from the agreement of what it is made of. Assumes nothing.
-use Prim.Native.Nat.{ℕ, _+_, _*_, _/_, _<_, min}
+use Prim.Native.Nat.{ℕ, _*_, _/_, _<_, min}
 use mathlib.Core.Path.{_≡_, ap, ap₂, _∙_}
 use mathlib.Core.Bool.{cond, false}
 use lib.IntN.{pos, _+ℤ_, _-ℤ_}

@@ -1,6 +1,6 @@
 -- The laws of `man`: its range, that it differs from its argument by whole turns, and that nothing else in range does. A signed argument is a difference of
 -- two naturals, and whole turns are products that `omega` takes as atoms. Assumes nothing.
-use Prim.Native.Nat.{ℕ, _+_, _-_, _*_, _/_, _%_, _<_}
+use Prim.Native.Nat.{ℕ, _+_, _*_, _/_, _%_, _<_}
 use mathlib.Core.Path.{_≡_, sym, ap, ap₂, _∙_}
 use native.Mathlib.Omega.{arith}
 use native.Mathlib.Nat.{mod-lt, mod-add-div', add-mul-mod-self-right, mod-eq-of-lt}

@@ -1,6 +1,6 @@
 -- Laws of sums, choices and searches over the indices below a count: how each grows by one index, that only the indices below the count matter, and
 -- how a search is settled. Least and greatest are also those of naturals raised by one amount. Assumes nothing.
-use Prim.Native.Nat.{ℕ, zero, suc, _+_, _-_, _≤_, _<_, min, max}
+use Prim.Native.Nat.{ℕ, zero, suc, _+_, _≤_, _<_, min, max}
 use mathlib.Core.Path.{_≡_, refl, sym, ap, ap₂, _∙_}
 use mathlib.Core.Bool.{Bool, true, false, cond}
 use mathlib.Core.List.{List, [], _∷_, _++_, append-assoc}

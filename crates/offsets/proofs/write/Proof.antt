@@ -7,7 +7,7 @@ use lib.ListN.{length-set, length, drop}
 use borrow.Author.Needs.{needs}
 use Rattle.circle.specs.Over.{listBelow}
 use Rattle.circle.proofs.Numbers.{fill-store}
-use Rattle.street.specs.Limits.{maxSignals}
+use Rattle.road.specs.Limits.{maxSignals}
 use Rattle.street.specs.Streets.{timedStreet}
 use Rattle.search.proofs.Pairs.{place-lt}
 use Rattle.offsets.specs.Moved.{movedOffset}

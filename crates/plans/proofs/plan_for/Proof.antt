@@ -6,7 +6,8 @@ use mathlib.Core.List.{List}
 use native.Mathlib.Omega.{arith}
 use lib.ListN.{length}
 use borrow.Author.Needs.{needs}
-use Rattle.street.specs.Limits.{maxSignals, maxHalves}
+use Rattle.road.specs.Limits.{maxSignals}
+use Rattle.street.specs.Limits.{maxHalves}
 use Rattle.street.specs.Lists.{Lists, typed}
 use Rattle.street.specs.Checks.{planChecks}
 use Rattle.street.specs.Streets.{streetOf, timedStreet, Sound}

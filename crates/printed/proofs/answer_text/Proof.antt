@@ -5,7 +5,7 @@ use mathlib.Core.Path.{sym, ap, _∙_}
 use lib.ListN.{length, take}
 use lib.Seq.{length-take-le}
 use borrow.Author.Needs.{needs}
-use Rattle.street.specs.Limits.{maxSignals}
+use Rattle.road.specs.Limits.{maxSignals}
 use Rattle.printed.specs.Text.{textOf, printedOf}
 use Rattle.printed.proofs.Ways.{lent-le}
 use Rattle.printed.proofs.answer_text.Statement.{statement}

@@ -7,7 +7,7 @@ use mathlib.Core.List.{List, _++_}
 use lib.ListN.{length, take, drop, replicate}
 use lib.Seq.{length-take-le}
 use borrow.Author.Needs.{needs}
-use Rattle.street.specs.Limits.{maxSignals}
+use Rattle.road.specs.Limits.{maxSignals}
 use Rattle.sheet.specs.declared.Sheet.{Sheet}
 use Rattle.printed.specs.Text.{textOf, printedOf}
 use Rattle.printed.specs.Way.{listsOf, Held}

@@ -18,7 +18,7 @@ use Rattle.circle.proofs.Formulas.{reference-first, B⁺, equal-width, platoons
 use Rattle.circle.proofs.Bands.{Bands, equal-bands, outbound-bands, inbound-bands, scaled, greatest-scaled}
 use Rattle.street.specs.Lists.{Lists}
 use Rattle.street.specs.Checks.{planChecks}
-use Rattle.street.specs.Times.{m, timed}
+use Rattle.street.specs.Streets.{m, timed}
 use Rattle.street.specs.declared.Verdict.the-variants.{Passed}
 use Rattle.promises.specs.Exact.{Fine, exactOutbound, exactInbound}
 use Rattle.promises.specs.Rounding.{NoneBeats, Short, NamedClear, OutboundClear, InboundClear, NoOffsetsBeat, NoHalvesBeat, FallsShort, NamedBandsClear}

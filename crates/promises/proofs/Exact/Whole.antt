@@ -1,7 +1,7 @@
 -- Where no time was rounded. The window of the lags has no length, so every exact stretch is one at rounded times in the fine unit and back. So beside an exact band of w nothing
 -- wider than 2B - w is left, whatever the offsets; and where something is left the two bands of a moved plan leave each other just their widths and are exact. Under the equal plan's
 -- offsets, in the fine unit too, neither band exceeds B, nor 0 where B is negative. Assumes nothing.
-use Prim.Native.Nat.{ℕ, _+_, _-_, _*_, _≤_}
+use Prim.Native.Nat.{ℕ, _+_, _*_, _≤_}
 use mathlib.Core.Path.{_≡_, ap, subst}
 use native.Mathlib.Omega.{arith}
 use native.Mathlib.Nat.{mul-le-mul-left}
@@ -13,7 +13,7 @@ use Rattle.circle.proofs.Bands.{scaled, equal-scaled, other-scaled, patterned-s
 use Rattle.circle.proofs.Formulas.{B⁺, asked, other-width}
 use Rattle.street.specs.Lists.{Lists}
 use Rattle.street.specs.Checks.{planChecks}
-use Rattle.street.specs.Times.{m, timed}
+use Rattle.street.specs.Streets.{m, timed}
 use Rattle.street.specs.declared.Verdict.the-variants.{Passed}
 use Rattle.promises.specs.Exact.{Fine, exactOutbound, exactInbound}
 use Rattle.promises.specs.Rounding.{Exactly, EqualExact, MovedExact}

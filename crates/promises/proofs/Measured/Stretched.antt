@@ -16,7 +16,7 @@ use Rattle.circle.proofs.Stretches.{since, Passes, along, Proper, passes-stretc
 use Rattle.circle.proofs.Bands.{Named, meets, finer-passes}
 use Rattle.street.specs.Lists.{Lists, signals}
 use Rattle.street.specs.Checks.{planChecks}
-use Rattle.street.specs.Times.{m, timed}
+use Rattle.street.specs.Streets.{m, timed}
 use Rattle.street.specs.declared.Verdict.the-variants.{Passed}
 use Rattle.promises.specs.Exact.{Fine, exactWay}
 use Rattle.promises.specs.Rounding.{InsideClear, after}

@@ -14,7 +14,7 @@ use Rattle.circle.proofs.Formulas.{reference-lt, other-width}
 use Rattle.circle.proofs.Bands.{Bands}
 use Rattle.street.specs.Lists.{Lists, signals}
 use Rattle.street.specs.Checks.{orNext, planChecks}
-use Rattle.street.specs.Times.{m, timed}
+use Rattle.street.specs.Streets.{m, timed}
 use Rattle.street.specs.declared.Code.the-variants.{Width}
 use Rattle.street.specs.declared.Verdict.{Verdict}
 use Rattle.street.specs.declared.Verdict.the-variants.{Passed, Refused}

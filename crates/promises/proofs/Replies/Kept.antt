@@ -5,7 +5,7 @@ use mathlib.Core.Path.{subst}
 use lib.ListN.{length, getD}
 use Rattle.circle.specs.Method.{reference, redEnd, redStart}
 use Rattle.circle.proofs.Formulas.{reference-lt}
-use Rattle.street.specs.Times.{timed}
+use Rattle.street.specs.Streets.{timed}
 use Rattle.widths.specs.Moved.{shiftOf, outboundWidth, inboundWidth}
 use Rattle.offsets.specs.Moved.{movedOffset}
 use Rattle.promises.specs.Replies.{BandsKept, ReplyBands}

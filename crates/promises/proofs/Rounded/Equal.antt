@@ -8,7 +8,7 @@ use Rattle.circle.specs.Bands.{width, outboundWay, inboundWay}
 use Rattle.circle.proofs.Stretches.{where-some, Rising, Patterned, offset-turns, offset-patterned, likes}
 use Rattle.circle.proofs.Formulas.{Fit}
 use Rattle.circle.proofs.Bands.{Bounded, bound-signed, Bands, equal-bands, equal-best, neither, fit-scaled, rising-scaled, equal-scaled}
-use Rattle.street.specs.Times.{timed}
+use Rattle.street.specs.Streets.{timed}
 use Rattle.promises.specs.Rounded.{OnStreets, Measured, NoneWider, TogetherTwiceB, Mirrored, behind, BandsClear, NamedClear}
 use Rattle.promises.proofs.Streets.Passing.{fit, bounded, bounded-fine, rising}
 use Rattle.promises.proofs.Measured.Widths.{proper-way, width-passes, inside, as-wide, bands-measured}

@@ -15,7 +15,7 @@ use Rattle.circle.proofs.Formulas.{offset-lt}
 use Rattle.circle.proofs.Stretches.{along, Alike, width-alike}
 use Rattle.street.specs.Lists.{Lists, signals}
 use Rattle.street.specs.Checks.{planChecks, orNext, faultAt}
-use Rattle.street.specs.Times.{timed}
+use Rattle.street.specs.Streets.{timed}
 use Rattle.street.specs.declared.Code.the-variants.{Offset}
 use Rattle.street.specs.declared.Verdict.the-variants.{Passed}
 use Rattle.street.proofs.Passed.{enough-room}

@@ -14,7 +14,7 @@ use Rattle.circle.specs.Moved.{otherWidth, platoonWidth}
 use Rattle.circle.proofs.Formulas.{Fit, other-width, platoons-range}
 use Rattle.circle.proofs.Stretches.{Rising, Patterned, offset-patterned}
 use Rattle.circle.proofs.Bands.{Bounded, Bands, equal-bands, outbound-bands, inbound-bands, beside, neither, fill, fit-scaled, rising-scaled, other-scaled}
-use Rattle.street.specs.Times.{timed}
+use Rattle.street.specs.Streets.{timed}
 use Rattle.widths.specs.Moved.{platoonShift, outboundWidth, inboundWidth}
 use Rattle.widths.specs.declared.Shift.{Shift}
 use Rattle.widths.specs.declared.Shift.the-variants.{Unmoved, Outbound, Inbound}

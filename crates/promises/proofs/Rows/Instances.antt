@@ -5,10 +5,10 @@ use mathlib.Core.Path.{_≡_, refl, _∙_}
 use Rattle.circle.specs.Over.{firstBelow, sumBelow, leastBelow, greatestBelow}
 use Rattle.circle.specs.Method.{u, pairWidth, b, B, reference, offset, equalWidth}
 use Rattle.circle.specs.Bands.{width, outboundWay, inboundWay}
-use Rattle.street.specs.Limits.{maxSignals}
+use Rattle.road.specs.Limits.{maxSignals}
 use Rattle.street.specs.Lists.{Lists}
 use Rattle.street.specs.Checks.{countCheck, roomCheck, cycleCheck, redCheck, distanceCheck, speedCheck, planChecks}
-use Rattle.street.specs.Times.{timed}
+use Rattle.street.specs.Streets.{timed}
 use Rattle.street.specs.declared.Verdict.the-variants.{Passed}
 use Rattle.promises.proofs.Rounded.Equal.{measured}
 use Rattle.promises.specs.Rows.{pair, streetA}

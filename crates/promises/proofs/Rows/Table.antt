@@ -1,5 +1,6 @@
 -- One theorem over the table of document 01's rows: each row's reply and list by computation, and row 9's exact best by demand 3. Assumes nothing.
 use mathlib.Core.Path.{refl}
+use mathlib.Core.List.{_++_}
 use Rattle.circle.specs.Over.{firstBelow, sumBelow, leastBelow, greatestBelow, listBelow}
 use Rattle.circle.specs.Method.{u, pairWidth, b, B, reference, phase, offset, equalWidth, redEnd, redStart}
 use Rattle.circle.specs.Moved.{g, inRange, chosen, outboundLowering, inboundLowering, lowered, otherWidth, platoonWidth}
@@ -10,7 +11,11 @@ use Rattle.promises.specs.Rows.{ExactBest, lent, Holds, All, pair, stree
 use Rattle.promises.proofs.Exact.Tight.{row-nine}
 
 pub rows-hold : All rows
-unfolding All Holds ExactBest best-row row plan refusal rows equal-rows width-rows platoon-rows pair streetA lent firstBelow sumBelow leastBelow greatestBelow listBelow u pairWidth b B reference phase offset equalWidth redEnd redStart countCheck roomCheck cycleCheck redCheck distanceCheck speedCheck planChecks g inRange chosen outboundLowering inboundLowering lowered otherWidth platoonWidth platoonShift platoonCheck widthCheck
+unfolding All Holds ExactBest best-row row plan refusal rows equal-rows width-rows platoon-rows pair streetA lent
 rows-hold =
+    unfold countCheck roomCheck cycleCheck redCheck distanceCheck speedCheck planChecks platoonCheck widthCheck in
+    unfold firstBelow sumBelow leastBelow greatestBelow listBelow u pairWidth b B reference phase offset equalWidth redEnd redStart g inRange chosen outboundLowering inboundLowering lowered otherWidth platoonWidth platoonShift in
     let nine = row-nine in
-    ((refl, refl, tt), ((refl, refl, tt), ((refl, refl, tt), ((refl, refl, tt), ((refl, refl, tt), ((refl, refl, ((nine .0 .2, ((λ j. 0), nine .2, nine .3)), nine .4)), ((refl, refl, tt), ((refl, refl, tt), ((refl, refl, tt), ((refl, refl, tt), ((refl, refl, tt), ((refl, refl, tt), ((refl, refl, tt), ((refl, refl, tt), ((refl, refl, tt), ((refl, refl, tt), ((refl, refl, tt), ((refl, refl, tt), ((refl, refl, tt), ((refl, refl, tt), ((refl, refl, tt), ((refl, refl, tt), tt))))))))))))))))))))))
+    let platoons : All platoon-rows = ((refl, refl, tt), ((refl, refl, tt), ((refl, refl, tt), ((refl, refl, tt), ((refl, refl, tt), ((refl, refl, tt), ((refl, refl, tt), tt))))))) in
+    let widths : All (width-rows ++ platoon-rows) = ((refl, refl, tt), ((refl, refl, tt), ((refl, refl, tt), ((refl, refl, tt), ((refl, refl, tt), ((refl, refl, tt), ((refl, refl, tt), ((refl, refl, tt), platoons)))))))) in
+    ((refl, refl, tt), ((refl, refl, tt), ((refl, refl, tt), ((refl, refl, tt), ((refl, refl, tt), ((refl, refl, ((nine .0 .2, ((λ j. 0), nine .2, nine .3)), nine .4)), ((refl, refl, tt), widths)))))))

@@ -8,12 +8,13 @@ use Rattle.circle.specs.Bands.{Way, outboundWay, inboundWay}
 use Rattle.circle.proofs.Formulas.{Fit}
 use Rattle.circle.proofs.Stretches.{along, Rising}
 use Rattle.circle.proofs.Bands.{scaled, fit-scaled, rising-scaled, Finer, outbound-finer, inbound-finer}
+use Rattle.road.specs.Times.{linkTicks, roundedLink}
+use Rattle.road.proofs.Nearest.{link-near, out-marked, back-marked}
 use Rattle.street.specs.Lists.{Lists, signals}
 use Rattle.street.specs.Checks.{planChecks}
-use Rattle.street.specs.Times.{linkTicks, roundedLink, m, timed}
+use Rattle.street.specs.Streets.{m, timed}
 use Rattle.street.specs.declared.Verdict.the-variants.{Passed}
 use Rattle.street.proofs.Passed.{clear}
-use Rattle.street.proofs.Nearest.{link-near, out-marked, back-marked}
 use Rattle.promises.specs.Exact.{Fine, exactLink, exactTo}
 use Rattle.promises.proofs.Streets.Windows.{Window, from-first, to-last}
 pub use Rattle.promises.proofs.Streets.Passing.{fit, bounded, bounded-fine, rising}

@@ -7,9 +7,10 @@ use Rattle.circle.proofs.Formulas.{Fit}
 use Rattle.circle.proofs.Stretches.{Stops, Rising}
 use Rattle.circle.proofs.Bands.{scaled, fit-scaled, stops-scaled, rising-scaled, Bounded, bound}
 use Rattle.circle.proofs.Numbers.{sum-rises}
+use Rattle.road.specs.Times.{linkTicks}
 use Rattle.street.specs.Lists.{Lists, signals}
 use Rattle.street.specs.Checks.{planChecks}
-use Rattle.street.specs.Times.{timed, linkTicks}
+use Rattle.street.specs.Streets.{timed}
 use Rattle.street.specs.declared.Verdict.the-variants.{Passed}
 use Rattle.street.proofs.Passed.{clear}
 

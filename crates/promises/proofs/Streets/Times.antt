@@ -1,11 +1,11 @@
 -- The signed times between two signals are the sums of the link times between them, with document 01's signs. Assumes nothing.
-use Prim.Native.Nat.{ℕ, zero, suc, _+_, _-_}
+use Prim.Native.Nat.{ℕ, zero, suc, _+_}
 use mathlib.Core.Path.{_≡_, sym, ap, _∙_}
 use native.Mathlib.Omega.{arith}
 use lib.IntN.{pos, negℤ, _-ℤ_}
 use Rattle.circle.specs.Over.{sumBelow}
 use Rattle.circle.proofs.Numbers.{sum-more, pos-minus, pos-sub, sub-eq, neg-sub}
-use Rattle.street.specs.Times.{linkTicks}
+use Rattle.road.specs.Times.{linkTicks}
 use Rattle.promises.specs.Rounded.{SignedTimes}
 
 -- a sum splits at any index

@@ -6,8 +6,8 @@ use mathlib.Core.Logic.{⊎-elim}
 use native.Mathlib.Omega.{arith}
 use native.Mathlib.Nat.{mul-lt-mul-of-pos-left, mul-mod-left, mod-add-div', eq-or-lt-of-le, le-of-suc-le-suc}
 use lib.ListN.{getD}
+use Rattle.road.specs.Times.{linkLength}
 use Rattle.street.specs.Lists.{Lists, signals}
-use Rattle.street.specs.Times.{linkLength}
 use Rattle.street.proofs.Passed.{clear}
 use Rattle.promises.specs.Rounding.{FineExists, NothingLost}
 

@@ -8,7 +8,7 @@ use native.Mathlib.Omega.{arith}
 use native.Mathlib.Nat.{mul-le-mul-left}
 use Rattle.circle.specs.Over.{sumBelow, countBelow}
 use Rattle.circle.proofs.Numbers.{sum-rises}
-use Rattle.street.proofs.Nearest.{apart}
+use Rattle.road.proofs.Nearest.{apart}
 
 -- a list of lags in fine units as rounding has it, and the exact one: up to the signal n they lie, moved by one amount, in a window of the length most
 pub record Window (n most : ℕ) (rounded exact : ℕ → ℕ) : Type 0 where

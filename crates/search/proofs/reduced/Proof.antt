@@ -7,7 +7,7 @@ use lib.ListN.{replicate, drop, getD}
 use borrow.Author.Needs.{needs}
 use Rattle.circle.specs.Over.{listBelow}
 use Rattle.circle.proofs.Numbers.{fill-store, getD-listBelow}
-use Rattle.street.specs.Limits.{maxSignals}
+use Rattle.road.specs.Limits.{maxSignals}
 use Rattle.street.specs.Streets.{timedStreet}
 use Rattle.search.specs.Search.{place}
 use Rattle.search.proofs.reduced.Statement.{statement}

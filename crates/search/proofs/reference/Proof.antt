@@ -9,7 +9,7 @@ use lib.ListN.{length-set, length, getD, replicate, getD-replicate}
 use borrow.Author.Count.{below-none}
 use borrow.Author.Needs.{needs}
 use Rattle.circle.proofs.Formulas.{b⁺}
-use Rattle.street.specs.Limits.{maxSignals}
+use Rattle.road.specs.Limits.{maxSignals}
 use Rattle.street.specs.Streets.{timedStreet}
 use Rattle.search.proofs.Leading.{settled, Leading, leads-first, leads-new, leads-still, row-set, fit-sound, turning, candidate-is}
 use Rattle.search.specs.Search.{Row}

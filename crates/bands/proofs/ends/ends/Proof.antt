@@ -11,7 +11,7 @@ use Rattle.circle.specs.Man.{man}
 use Rattle.circle.specs.Method.{halves}
 use Rattle.circle.specs.Over.{listBelow}
 use Rattle.circle.proofs.Numbers.{fill-store}
-use Rattle.street.specs.Limits.{maxSignals}
+use Rattle.road.specs.Limits.{maxSignals}
 use Rattle.street.specs.Streets.{timedStreet}
 use Rattle.bands.specs.Search.{endOf}
 use Rattle.bands.proofs.ends.ends.Statement.{statement}

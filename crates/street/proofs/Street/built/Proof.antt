@@ -2,8 +2,8 @@
 use Prim.Native.Nat.{ℕ}
 use mathlib.Core.Path.{_≡_, ap, _∙_}
 use lib.ListN.{length}
+use Rattle.road.specs.Roads.{roadOf}
 use Rattle.street.specs.Lists.{Lists, signals, typed}
-use Rattle.street.specs.Streets.{roadOf}
 use Rattle.street.proofs.Passed.{Clear, clear}
 use Rattle.street.proofs.Street.built.Statement.{statement}
 use Rattle.street.proofs.Street.built.Tie as tie

@@ -1,5 +1,5 @@
 -- Laws of travel times: a link's time is small, and one more link adds its time to a sum or its mark to a count. Assumes nothing.
-use Prim.Native.Nat.{ℕ, zero, suc, _+_, _-_, _*_, _/_, _≤_, _<_}
+use Prim.Native.Nat.{ℕ, zero, suc, _+_, _*_, _/_, _≤_, _<_}
 use mathlib.Core.Path.{_≡_, sym, ap₂, _∙_}
 use mathlib.Core.Bool.{Bool, true, false, cond}
 use mathlib.Core.List.{List}
@@ -8,8 +8,8 @@ use native.Mathlib.Nat.{div-lt-iff-lt-mul}
 use lib.ListN.{length, getD}
 use Rattle.circle.specs.Over.{sumBelow, countBelow}
 use Rattle.circle.proofs.Numbers.{sum-more}
-use Rattle.street.specs.Limits.{maxDistance, minSpeed, maxLinkTime}
-use Rattle.street.specs.Times.{ticks, linkLength, linkTicks, timeTo, Driveable}
+use Rattle.road.specs.Limits.{maxDistance, minSpeed, maxLinkTime}
+use Rattle.road.specs.Times.{ticks, linkLength, linkTicks, timeTo, Driveable}
 
 pub ticks-small : (d v : ℕ) → d ≤ maxDistance → minSpeed ≤ v → ticks d v ≤ maxLinkTime
 ticks-small d v near slow =

@@ -1,4 +1,4 @@
--- `street::Road::new` meets its contract. The loop's invariant: both sums are the times to the signal at `k`, m is counted over the links before it, and each array holds
+-- `road::Road::new` meets its contract. The loop's invariant: both sums are the times to the signal at `k`, m is counted over the links before it, and each array holds
 -- the times up to it. Assumes nothing.
 use Prim.Native.Nat.{ℕ, _+_, _-_, _≤_, _<_}
 use mathlib.Core.Path.{_≡_, refl, ap, _∙_}
@@ -9,12 +9,12 @@ use lib.ListN.{length, drop, replicate}
 use borrow.Author.Needs.{needs}
 use Rattle.circle.specs.Over.{sumBelow, countBelow, listBelow}
 use Rattle.circle.proofs.Numbers.{fill-store}
-use Rattle.street.specs.Limits.{maxSignals, maxTime}
-use Rattle.street.specs.Times.{linkTicks, timeTo, roundedLink, Driveable}
-use Rattle.street.specs.Streets.{padded}
-use Rattle.street.proofs.TimeLaws.{sum-step, mark-small, time-small, time-far, count-small}
-use Rattle.street.proofs.Road.new.Statement.{statement}
-use Rattle.street.proofs.Road.new.Tie as tie
+use Rattle.road.specs.Limits.{maxSignals, maxTime}
+use Rattle.road.specs.Times.{linkTicks, timeTo, roundedLink, Driveable}
+use Rattle.road.specs.Roads.{padded}
+use Rattle.road.proofs.TimeLaws.{sum-step, mark-small, time-small, time-far, count-small}
+use Rattle.road.proofs.Road.new.Statement.{statement}
+use Rattle.road.proofs.Road.new.Tie as tie
 
 -- an array that holds the times to the signals up to one
 abbrev Holds : List ℕ → List ℕ → ℕ → List ℕ → Type 0

@@ -1,13 +1,11 @@
-// Travel times in ticks, each link and direction rounded by itself, and how many links were rounded (01, 'Travel time').
-use crate::Street;
+// A link's times in ticks, each direction rounded by itself, and whether either was rounded (01, 'Travel time').
 ghost use mathlib.Core.Path.{_≡_};
 ghost use mathlib.Core.Bool.{not, cond};
 ghost use Prim.Native.Nat.{_+_, _-_, _≤_, _<_};
 ghost use lib.ListN.{length, getD};
-ghost use Rattle.street.specs.Limits.{maxSignals, maxDistance, minSpeed, maxSpeed};
-ghost use Rattle.street.specs.Checks.{_or_};
-ghost use Rattle.street.specs.Times.{ticks, whole, linkLength, linkTicks, roundedLink, Driveable};
-ghost use Rattle.street.specs.Streets.{padded};
+ghost use Rattle.circle.specs.Over.{_or_};
+ghost use Rattle.road.specs.Limits.{maxDistance, minSpeed, maxSpeed};
+ghost use Rattle.road.specs.Times.{ticks, whole, linkLength, linkTicks, roundedLink, Driveable};
 
 // A link's time in one direction: the rounded ticks, and whether the exact time was whole already.
 struct LinkTime {
@@ -68,18 +66,4 @@ pub fn link_times(distances: &[u32], outbound: &[u32], inbound: &[u32], k: usize
         inbound: home.ticks,
         rounded: mark(there.whole, home.whole),
     }
-}
-
-// A list as the entries of a street.
-pub fn copied(list: &[u32]) -> [u32; Street::MAX_SIGNALS]
-    requires { ⌜ length (now list) ≤ maxSignals ⌝ }
-    ensures { λ r. ⌜ r ≡ padded (length (now (list .entry))) (λ j. getD (now (list .entry)) j 0) ⌝ }
-{
-    let mut all = [0u32; Street::MAX_SIGNALS];
-    let mut i: usize = 0;
-    while i < list.len() {
-        all[i] = list[i];
-        i += 1;
-    }
-    all
 }

@@ -1,16 +1,16 @@
--- `street::times::copied` meets its contract. The loop's invariant: the array is the list's first `i` entries and zeros behind them. Assumes nothing.
+-- `street::copied` meets its contract. The loop's invariant: the array is the list's first `i` entries and zeros behind them. Assumes nothing.
 use Prim.Native.Nat.{ℕ, _-_, _≤_}
 use mathlib.Core.Path.{_≡_, refl, ap, _∙_}
 use mathlib.Core.List.{_++_}
 use native.Mathlib.Omega.{arith}
 use lib.ListN.{replicate, length, drop, getD}
 use borrow.Author.Needs.{needs}
-use Rattle.street.specs.Limits.{maxSignals}
-use Rattle.street.specs.Streets.{padded}
 use Rattle.circle.proofs.Numbers.{fill-store}
 use Rattle.circle.specs.Over.{listBelow}
-use Rattle.street.proofs.times.copied.Statement.{statement}
-use Rattle.street.proofs.times.copied.Tie as tie
+use Rattle.road.specs.Limits.{maxSignals}
+use Rattle.road.specs.Roads.{padded}
+use Rattle.street.proofs.copied.Statement.{statement}
+use Rattle.street.proofs.copied.Tie as tie
 
 abbrev Inv-loop : tie.InvT-loop
 Inv-loop list all₀ i₀ all i = (i ≤ length list) × (all ≡ listBelow i (λ j. getD list j 0) ++ drop i (replicate maxSignals 0))

@@ -1,15 +1,12 @@
--- Travel times, their rounding, and m (01, 'Travel time').
+-- Travel times, their rounding, and which links were rounded (01, 'Travel time').
 use Prim.Native.Nat.{ℕ, _+_, _-_, _*_, _/_, _%_, _≤_, _<_}
 use mathlib.Core.Path.{_≡_}
 use mathlib.Core.Bool.{Bool, not}
 use mathlib.Core.List.{List}
 use lib.ListN.{length, getD}
 use lib.Dec.{eqb}
-use Rattle.circle.specs.Over.{sumBelow, countBelow}
-use Rattle.circle.specs.Method.{Timed}
-use Rattle.street.specs.Limits.{maxSignals, maxDistance, minSpeed, maxSpeed}
-use Rattle.street.specs.Lists.{Lists, signals}
-use Rattle.street.specs.Checks.{_or_}
+use Rattle.circle.specs.Over.{_or_, sumBelow, countBelow}
+use Rattle.road.specs.Limits.{maxSignals, maxDistance, minSpeed, maxSpeed}
 
 -- a link of d mm at v mm/s takes exactly 10d/v ticks; rounded to the nearest, one half going up, that is the whole part of 10d/v + 1/2
 abbrev pub ticks : ℕ → ℕ → ℕ
@@ -36,20 +33,9 @@ abbrev pub roundedLink : List ℕ → List ℕ → List ℕ → ℕ → Bool
 roundedLink distances outbound inbound k =
     not (whole (linkLength distances k) (getD outbound k 0)) or not (whole (linkLength distances k) (getD inbound k 0))
 
--- m: how many links have a rounded time
-abbrev pub m : Lists → ℕ
-m l = countBelow (signals l - 1) (roundedLink (l .distances) (l .outbound) (l .inbound))
-
--- a street's numbers as the method takes them: each signal's times are sums of rounded link times
-abbrev pub timed : Lists → Timed
-timed l =
-    record {
-      cycle = l .cycle;
-      signals = signals l;
-      red = λ j. getD (l .reds) j 0;
-      outbound = timeTo (l .distances) (l .outbound);
-      inbound = timeTo (l .distances) (l .inbound);
-    }
+-- how many of the links between n signals have a rounded time
+abbrev pub roundedLinks : ℕ → List ℕ → List ℕ → List ℕ → ℕ
+roundedLinks n distances outbound inbound = countBelow (n - 1) (roundedLink distances outbound inbound)
 
 -- distances and one direction's speeds that have passed the checks: one distance more than speeds, none below the one before, none after the first too great, and all speeds in range
 pub record Driveable (distances speeds : List ℕ) : Type 0 where

@@ -10,8 +10,8 @@ use native.Mathlib.Decide.{ℕ-discrete}
 use native.Mathlib.Nat.{mod-lt, mod-add-div', mul-le-mul-left, le-of-mul-le-mul-right, eq-of-mul-eq-mul-right, div-eq-of-lt-le}
 use lib.ListN.{getD}
 use borrow.Author.Tests.{ne-eqb}
-use Rattle.street.specs.Checks.{_or_}
-use Rattle.street.specs.Times.{ticks, whole, linkLength, linkTicks, roundedLink}
+use Rattle.circle.specs.Over.{_or_}
+use Rattle.road.specs.Times.{ticks, whole, linkLength, linkTicks, roundedLink}
 
 -- how far two numbers are apart
 abbrev pub apart : ℕ → ℕ → ℕ

@@ -1,4 +1,4 @@
--- `street::times::link_times` meets its contract: the link is near enough and both speeds are in range, so each time is the one that the definitions name; the mark is that
+-- `road::times::link_times` meets its contract: the link is near enough and both speeds are in range, so each time is the one that the definitions name; the mark is that
 -- of the same two answers. Assumes nothing.
 use Prim.Native.Nat.{ℕ, _≤_, _<_}
 use mathlib.Core.Path.{_≡_, ap, ap₂, _∙_}
@@ -7,12 +7,12 @@ use mathlib.Core.List.{List}
 use native.Mathlib.Omega.{arith}
 use lib.ListN.{length, getD}
 use borrow.Author.Needs.{needs}
-use Rattle.street.specs.Limits.{maxDistance, minSpeed, maxSpeed}
-use Rattle.street.specs.Checks.{_or_}
-use Rattle.street.specs.Times.{ticks, whole, linkLength, Driveable}
-use Rattle.street.proofs.TimeLaws.{link-near}
-use Rattle.street.proofs.times.link_times.Statement.{statement}
-use Rattle.street.proofs.times.link_times.Tie as tie
+use Rattle.circle.specs.Over.{_or_}
+use Rattle.road.specs.Limits.{maxDistance, minSpeed, maxSpeed}
+use Rattle.road.specs.Times.{ticks, whole, linkLength, Driveable}
+use Rattle.road.proofs.TimeLaws.{link-near}
+use Rattle.road.proofs.times.link_times.Statement.{statement}
+use Rattle.road.proofs.times.link_times.Tie as tie
 
 -- what a direction's time requires
 ready : (ds vs : List ℕ) (k long : ℕ) → Driveable ds vs → k < length vs → long ≡ linkLength ds k → (long ≤ maxDistance) × (minSpeed ≤ getD vs k 0) × (getD vs k 0 ≤ maxSpeed)

@@ -1,0 +1,3 @@
+pub mod TimeLaws
+pub mod Nearest
+pub mod Paved
