@@ -1,10 +1,11 @@
--- The order of the checks, seen on one street: it is at fault in every check and mended fault by fault, and the codes come in the order of document 01's table. Assumes nothing.
+-- The order of the checks, seen on one street: it is at fault in every check and mended fault by fault, and the codes come in the order of document 01's table, each at its place.
+-- Assumes nothing.
 use Prim.Native.Nat.{ℕ}
 use mathlib.Core.Path.{_≡_, refl}
 use mathlib.Core.List.{List, [], _∷_, map}
 use Rattle.circle.specs.Over.{firstBelow}
 use Rattle.street.specs.Lists.{typed}
-use Rattle.street.specs.Codes.{codeOf}
+use Rattle.street.specs.Codes.{codeOf, placeOf}
 use Rattle.street.specs.Checks.{countCheck, roomCheck, cycleCheck, redCheck, distanceCheck, speedCheck, planChecks}
 use Rattle.street.specs.declared.Verdict.{Verdict}
 
@@ -27,3 +28,8 @@ verdicts =
 pub in-order : map codeOf verdicts ≡ 2 ∷ 3 ∷ 4 ∷ 5 ∷ 6 ∷ 7 ∷ 0 ∷ []
 unfolding planChecks countCheck roomCheck cycleCheck redCheck distanceCheck speedCheck firstBelow
 in-order = refl
+
+-- the second red and the second distance are at fault, and the speed of link 1
+pub in-place : map placeOf verdicts ≡ 0 ∷ 0 ∷ 0 ∷ 2 ∷ 2 ∷ 1 ∷ 0 ∷ []
+unfolding planChecks countCheck roomCheck cycleCheck redCheck distanceCheck speedCheck firstBelow
+in-place = refl
