@@ -63,7 +63,10 @@ pub fn cover(cases: &[Case]) {
 }
 
 fn note(tally: &mut Tally, case: &Case) {
-    let Some(Request::Plan { ask, room }) = request(case.request.as_bytes()) else { panic!("{case:?}") };
+    let (ask, room) = match request(case.request.as_bytes()) {
+        Some(Request::Plan { ask, room }) => (ask, room),
+        _ => panic!("{case:?}"),
+    };
     tally.note("requests", true);
     let street = read(&case.sheet);
     match street.clone().and_then(|street| plan(&street, ask, room)) {
@@ -83,7 +86,10 @@ fn equal(street: &Street) -> Plan {
 }
 
 fn note_refused(tally: &mut Tally, street: &Street, ask: Ask) {
-    let (Ask::Outbound(width) | Ask::Inbound(width)) = ask else { panic!("`{ask}` asks for no width") };
+    let width = match ask {
+        Ask::Outbound(width) | Ask::Inbound(width) => width,
+        _ => panic!("`{ask}` asks for no width"),
+    };
     tally.note("width 0 refused", width == 0);
     tally.note("width of one below B refused", width == equal(street).best - 1);
     tally.note("width of one above g refused", width == shortest_green(street) + 1);

@@ -157,7 +157,9 @@ fn lines(random: &mut Random, bytes: &mut Vec<u8>) {
 /// The signal count judged by its whole line: out of range, then a fault after it, in it, or no more bytes.
 fn a_count(random: &mut Random, bytes: &mut Vec<u8>) {
     let ends = places(bytes, 10);
-    let Some(&second) = ends.get(1) else { return };
+    if ends.len() < 2 {
+        return;
+    }
     if random.one_in(3) {
         return link_count(random, bytes);
     }
@@ -176,8 +178,9 @@ fn a_count(random: &mut Random, bytes: &mut Vec<u8>) {
         "-1",
     ]);
     let after = random.pick(&["", "\n", "\n", "\nx", "\n0 40", "\n\n", " \n", "\n0 40\n"]);
-    let kept = if random.one_in(2) { bytes.split_off(second + 1) } else { vec![] };
-    bytes.truncate(second + 1);
+    let start = ends[1] + 1;
+    let kept = if random.one_in(2) { bytes.split_off(start) } else { vec![] };
+    bytes.truncate(start);
     bytes.extend_from_slice(count.as_bytes());
     bytes.extend_from_slice(after.as_bytes());
     bytes.extend(kept);
@@ -188,13 +191,14 @@ fn link_count(random: &mut Random, bytes: &mut Vec<u8>) {
     let spaced: Vec<bool> = bytes.split(|&byte| byte == 10).map(|line| line.contains(&b' ')).collect();
     let ends = places(bytes, 10);
     // The link count is the first line without a space after one with a space.
-    let Some(line) = (1..spaced.len()).find(|&k| spaced[k - 1] && !spaced[k]) else { return };
-    let start = ends[line - 1] + 1;
-    let count = random.pick(&["0", "32", "33", "99999999", "032", "32 ", "", "32\r"]);
-    let after = random.pick(&["", "\n", "\nx\n", "\n10000 15000\n", "\n\n"]);
-    bytes.truncate(start);
-    bytes.extend_from_slice(count.as_bytes());
-    bytes.extend_from_slice(after.as_bytes());
+    if let Some(line) = (1..spaced.len()).find(|&k| spaced[k - 1] && !spaced[k]) {
+        let start = ends[line - 1] + 1;
+        let count = random.pick(&["0", "32", "33", "99999999", "032", "32 ", "", "32\r"]);
+        let after = random.pick(&["", "\n", "\nx\n", "\n10000 15000\n", "\n\n"]);
+        bytes.truncate(start);
+        bytes.extend_from_slice(count.as_bytes());
+        bytes.extend_from_slice(after.as_bytes());
+    }
 }
 
 /// More bytes after the sheet, up to the greatest length that is read and one past it, some after a count fault.

@@ -44,7 +44,7 @@ pub fn compare_all(cases: &[Case]) -> Vec<Difference> {
 
 fn replay(test: &str, seed: u64, case: Case) {
     let found = compare_run(&Program::cases(), std::slice::from_ref(&case));
-    report(test, seed, found.as_slice());
+    report(test, seed, &Vec::from_iter(found));
     println!("case {}", case.number);
     case.print();
     println!("the model and the program both answer\n{}", indented(&reply(&case.bytes())));
@@ -87,8 +87,10 @@ pub fn widths(streets: &[Street], plans: &[Plan]) -> Vec<(i64, i64)> {
     let cases: Vec<Case> = streets.iter().zip(plans).map(measure).collect();
     let numbers = |text: &String| {
         let numbers: Vec<i64> = text.split(' ').filter_map(|word| word.parse().ok()).collect();
-        let [out, _, back, _] = numbers[..] else { panic!("`{text}` is no measure") };
-        (out, back)
+        match numbers[..] {
+            [out, _, back, _] => (out, back),
+            _ => panic!("`{text}` is no measure"),
+        }
     };
     replies(&Program::cases(), &cases).iter().map(numbers).collect()
 }

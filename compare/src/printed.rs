@@ -27,8 +27,12 @@ fn refused(Refusal { code, place }: &Refusal) -> String {
 pub fn plan_in(text: &str) -> Option<Plan> {
     let numbers: Vec<i64> =
         text.split_whitespace().map(|word| word.parse().ok()).collect::<Option<Vec<i64>>>()?;
-    let [reference, best, outbound, inbound, not_whole, ref offsets @ ..] = numbers[..] else { return None };
-    Some(Plan { reference, best, outbound, inbound, not_whole, offsets: offsets.to_vec() })
+    match numbers[..] {
+        [reference, best, outbound, inbound, not_whole, ref offsets @ ..] => {
+            Some(Plan { reference, best, outbound, inbound, not_whole, offsets: offsets.to_vec() })
+        }
+        _ => None,
+    }
 }
 
 /// What a sheet gets for offsets to be measured: outbound width and start, inbound width and start.

@@ -71,7 +71,9 @@ pub fn fault_line(bytes: &[u8]) -> Option<usize> {
 }
 
 fn read_lines(lines: &mut Lines) -> Result<Street, Refusal> {
-    let [1] = columns(lines)? else { return Err(SHEET) };
+    if columns(lines)? != [1] {
+        return Err(SHEET);
+    }
     let [cycle] = columns(lines)?;
     let mut street = Street { cycle, reds: vec![], distances: vec![], outbound: vec![], inbound: vec![] };
     let [signals] = columns(lines)?;

@@ -102,7 +102,7 @@ fn the_client_is_right_on_the_sample_sheets() {
     let folder = fs::read_dir(repository().join("sheets")).expect("sheets/ is there");
     let files = folder.map(|entry| entry.expect("a file of sheets/").path());
     let mut runs = vec![];
-    for file in files.filter(|file| file.extension().is_some_and(|end| end == "txt")) {
+    for file in files.filter(|file| file.extension() == Some("txt".as_ref())) {
         let sheet = fs::read(&file).expect("a sample sheet");
         let file = file.into_os_string().into_string().expect("a plain name");
         let run = |words: String| Run { file: file.clone(), sheet: sheet.clone(), words };

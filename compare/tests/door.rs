@@ -308,7 +308,7 @@ fn a_signal_ends_the_provers_too() {
         // One that has ended may still be listed until its parent, whoever that is now, looks at it.
         let runs = || {
             let state = fs::read_to_string(format!("/proc/{prover}/stat")).unwrap_or_default();
-            state.rsplit(") ").next().is_some_and(|rest| !rest.is_empty() && !rest.starts_with('Z'))
+            state.rsplit(") ").next().map_or(false, |rest| !rest.is_empty() && !rest.starts_with('Z'))
         };
         while runs() {
             assert!(

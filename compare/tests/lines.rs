@@ -322,12 +322,13 @@ fn out_of_range(street: &Street, code: i64, place: i64) -> (usize, String) {
 /// The line of a refused sheet's fault, and what is to be said of it, by the model. One that is too long has the fault
 /// that it would have if it were not.
 fn expected(sheet: &[u8], code: i64, place: i64) -> (usize, String) {
-    let Some(line) = fault_line(sheet) else {
-        return out_of_range(&read(sheet).expect("a sheet"), code, place);
-    };
-    let first = read(&sheet[..sheet.len().min(LARGEST_SHEET)]).err().map(|refusal| refusal.code);
-    let told = if first == Some(2) { miscounted(sheet, line) } else { ill_formed(sheet, line) };
-    (line, told)
+    if let Some(line) = fault_line(sheet) {
+        let first = read(&sheet[..sheet.len().min(LARGEST_SHEET)]).err().map(|refusal| refusal.code);
+        let told = if first == Some(2) { miscounted(sheet, line) } else { ill_formed(sheet, line) };
+        (line, told)
+    } else {
+        out_of_range(&read(sheet).expect("a sheet"), code, place)
+    }
 }
 
 /// Holds what is said of a sheet to the model: the size of a street that is planned and no line; else the line of the

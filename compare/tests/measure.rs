@@ -26,7 +26,13 @@ fn random_case(seed: u64, number: u64) -> Case {
 
 #[test]
 fn cases_measures_as_the_model_does() {
-    let Some(cases) = hold("measure", SEED, CASES, random_case) else { return };
+    if let Some(cases) = hold("measure", SEED, CASES, random_case) {
+        cover(&cases);
+    }
+}
+
+/// Counts the cases, and fails where a kind of them was tried too seldom.
+fn cover(cases: &[Case]) {
     let mut tally = Tally::of(&[
         ("requests", 4_000),
         ("measured", 1_500),
@@ -50,7 +56,10 @@ fn cases_measures_as_the_model_does() {
 }
 
 fn note(tally: &mut Tally, case: &Case) {
-    let Some(Request::Measure { offsets }) = request(case.request.as_bytes()) else { panic!("{case:?}") };
+    let offsets = match request(case.request.as_bytes()) {
+        Some(Request::Measure { offsets }) => offsets,
+        _ => panic!("{case:?}"),
+    };
     let served = read(&case.sheet).and_then(|street| match measure_fault(&street, &offsets) {
         Some(refusal) => Err(refusal),
         None => Ok(street),

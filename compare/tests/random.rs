@@ -70,10 +70,8 @@ fn replay(seed: u64, number: u64) {
     } else {
         (compare_run(&Program::cases(), std::slice::from_ref(&case)), reply(&case.bytes()))
     };
-    let Some(difference) = found else {
-        println!("case {number}");
-        case.print();
-        return println!("the model and the program both answer\n{}", indented(&text));
-    };
-    report("random", seed, &[difference]);
+    report("random", seed, &Vec::from_iter(found));
+    println!("case {number}");
+    case.print();
+    println!("the model and the program both answer\n{}", indented(&text));
 }
