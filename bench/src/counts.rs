@@ -1,14 +1,12 @@
 //! The calls whose instructions the emulator counts. The system call getppid, which its record shows, stands before and
 //! after each stretch that counts.
 
-use crate::inputs::{streets, Case, Reds, SIGNALS};
+use crate::inputs::{streets, Case, Reds, CYCLE, SIGNALS};
 use crate::library::Library;
 use crate::plain::Plain;
 use crate::same::Same;
 use crate::timing::{repeat, Call, CALLS};
 use std::os::unix::process::parent_id;
-
-const CYCLE: u32 = 650;
 
 type Program = fn(Call, &mut [Case], usize);
 

@@ -5,6 +5,8 @@ use crate::plain::{range, Plain};
 
 pub const SIGNALS: [usize; 4] = [1, 2, 10, 32];
 pub const CYCLES: [u32; 3] = [10, 650, 6_000];
+/// The cycle of the tables that have but one.
+pub const CYCLE: u32 = 650;
 pub const REDS: [Reds; 2] = [Reds::Tight, Reds::Wide];
 /// How many streets there are of every kind.
 pub const STREETS: usize = 8;

@@ -1,11 +1,17 @@
 //! The proved library, through the C functions of its archive.
+//!
+//! A C function that returns a struct too large for registers gets the place for it as its first argument and answers
+//! that place. So the calling convention of x86-64 has it, and so the functions are declared here: another processor may
+//! hand the place over otherwise, and then the library's code, compiled for it, does not.
 
 use crate::calls::{Calls, Measure, Plan, Sheet};
+use std::mem::MaybeUninit;
 
 extern "C" {
-    fn corbatan_read(bytes: *const u8, bytes_count: usize) -> Sheet;
+    fn corbatan_read(reply: *mut Sheet, bytes: *const u8, bytes_count: usize) -> *mut Sheet;
 
     fn corbatan_equal(
+        reply: *mut Plan,
         cycle: u32,
         reds: *const u32,
         reds_count: usize,
@@ -17,9 +23,10 @@ extern "C" {
         back_count: usize,
         offsets: *mut u32,
         offsets_count: usize,
-    ) -> Plan;
+    ) -> *mut Plan;
 
     fn corbatan_outbound(
+        reply: *mut Plan,
         cycle: u32,
         reds: *const u32,
         reds_count: usize,
@@ -32,9 +39,10 @@ extern "C" {
         width: u32,
         offsets: *mut u32,
         offsets_count: usize,
-    ) -> Plan;
+    ) -> *mut Plan;
 
     fn corbatan_measure(
+        reply: *mut Measure,
         cycle: u32,
         reds: *const u32,
         reds_count: usize,
@@ -46,23 +54,33 @@ extern "C" {
         back_count: usize,
         offsets: *const u32,
         offsets_count: usize,
-    ) -> Measure;
+    ) -> *mut Measure;
 }
 
 pub struct Library;
 
-// SAFETY, of every call below: a slice's pointer and length are what the header asks for, and a lent list, which is
-// borrowed for writing, overlaps no input.
+/// The reply that a call puts into the place that it gets.
+#[inline(always)]
+fn reply<T>(call: impl FnOnce(*mut T) -> *mut T) -> T {
+    let mut place = MaybeUninit::uninit();
+    call(place.as_mut_ptr());
+    // SAFETY: the call wrote all of the reply.
+    unsafe { place.assume_init() }
+}
+
+// SAFETY, of every call below: the place is that of the reply, a slice's pointer and length are what the header asks
+// for, and a lent list, which is borrowed for writing, overlaps no input.
 impl Calls for Library {
     #[inline(always)]
     fn read(bytes: &[u8]) -> Sheet {
-        unsafe { corbatan_read(bytes.as_ptr(), bytes.len()) }
+        reply(|place| unsafe { corbatan_read(place, bytes.as_ptr(), bytes.len()) })
     }
 
     #[inline(always)]
     fn equal(cycle: u32, reds: &[u32], distances: &[u32], out: &[u32], back: &[u32], offsets: &mut [u32]) -> Plan {
-        unsafe {
+        reply(|place| unsafe {
             corbatan_equal(
+                place,
                 cycle,
                 reds.as_ptr(),
                 reds.len(),
@@ -75,7 +93,7 @@ impl Calls for Library {
                 offsets.as_mut_ptr(),
                 offsets.len(),
             )
-        }
+        })
     }
 
     #[inline(always)]
@@ -88,8 +106,9 @@ impl Calls for Library {
         width: u32,
         offsets: &mut [u32],
     ) -> Plan {
-        unsafe {
+        reply(|place| unsafe {
             corbatan_outbound(
+                place,
                 cycle,
                 reds.as_ptr(),
                 reds.len(),
@@ -103,13 +122,14 @@ impl Calls for Library {
                 offsets.as_mut_ptr(),
                 offsets.len(),
             )
-        }
+        })
     }
 
     #[inline(always)]
     fn measure(cycle: u32, reds: &[u32], distances: &[u32], out: &[u32], back: &[u32], offsets: &[u32]) -> Measure {
-        unsafe {
+        reply(|place| unsafe {
             corbatan_measure(
+                place,
                 cycle,
                 reds.as_ptr(),
                 reds.len(),
@@ -122,6 +142,6 @@ impl Calls for Library {
                 offsets.as_ptr(),
                 offsets.len(),
             )
-        }
+        })
     }
 }

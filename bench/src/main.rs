@@ -13,20 +13,39 @@ mod same;
 mod tables;
 mod timing;
 
-/// With no word, prints the tables; with any, makes the calls whose instructions are counted.
-#[no_mangle]
-pub extern "C" fn main(words: i32, _: *const *const u8) -> i32 {
-    if words > 1 {
-        counts::make();
-        return 0;
+use std::ffi::CStr;
+use std::os::raw::c_char;
+
+/// The word after the program's name.
+fn word(count: i32, words: *const *const c_char) -> String {
+    if count < 2 {
+        return String::new();
     }
+    // SAFETY: C's main gets as many words as it is told, each with a byte 0 at its end.
+    unsafe { CStr::from_ptr(*words.add(1)) }.to_string_lossy().into_owned()
+}
+
+/// Sees that the three programs agree.
+fn agreed() -> bool {
     match agree::agree() {
         Ok(count) => eprintln!("bench: the three programs agree on {count} cases"),
         Err(difference) => {
             eprintln!("bench: FAILED: the programs differ on {difference}");
-            return 1;
+            return false;
         }
     }
-    tables::print();
+    true
+}
+
+/// `ratios` prints the tables of ratios and `times` that of times, both after a look whether the programs agree; `counts`
+/// makes the calls whose instructions are counted.
+#[no_mangle]
+pub extern "C" fn main(count: i32, words: *const *const c_char) -> i32 {
+    match word(count, words).as_str() {
+        "ratios" if agreed() => tables::ratios(),
+        "times" if agreed() => tables::times(),
+        "counts" => counts::make(),
+        _ => return 1,
+    }
     0
 }

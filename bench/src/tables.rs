@@ -1,6 +1,6 @@
 //! The tables of ratios, in markdown.
 
-use crate::inputs::{streets, Reds, CYCLES, REDS, SIGNALS};
+use crate::inputs::{streets, Case, Reds, CYCLE, CYCLES, REDS, SIGNALS};
 use crate::library::Library;
 use crate::plain::Plain;
 use crate::same::Same;
@@ -31,10 +31,14 @@ struct Line {
     plain: [Ratio; CYCLES.len()],
 }
 
-fn line(call: Call, signals: usize, reds: Reds) -> Line {
+/// The times of the library, of `same` and of `plain` on one set of cases.
+fn programs(call: Call, cases: &mut [Vec<Case>; 1]) -> Vec<Times> {
     let programs = [repeat::<Library>, repeat::<Same>, repeat::<Plain>];
-    let jobs = programs.map(|program| Job { program, call, set: 0 });
-    let times = CYCLES.map(|cycle| alternate(&jobs, &mut [streets(signals, cycle, reds)]));
+    alternate(&programs.map(|program| Job { program, call, set: 0 }), cases)
+}
+
+fn line(call: Call, signals: usize, reds: Reds) -> Line {
+    let times = CYCLES.map(|cycle| programs(call, &mut [streets(signals, cycle, reds)]));
     let over = |other: usize| [0, 1, 2].map(|cycle: usize| Ratio::of(times[cycle][0], times[cycle][other]));
     Line { signals, same: over(1), plain: over(2) }
 }
@@ -98,7 +102,21 @@ fn summary(all: &[Vec<Line>]) {
     println!();
 }
 
-pub fn print() {
+/// Prints the best time of one call in nanoseconds, which means something on the machine's own processor alone.
+pub fn times() {
+    println!("**Nanoseconds of one call, C = 650, wide reds**\n");
+    println!("| Call | n | library | same | plain |\n|---|---|---|---|---|");
+    for call in CALLS {
+        for signals in SIGNALS {
+            let times = programs(call, &mut [streets(signals, CYCLE, Reds::Wide)]);
+            let cells: Vec<String> = times.iter().map(|time| format!("{:.0}", time.best)).collect();
+            println!("| {} | {} | {} |", call.name(), signals, cells.join(" | "));
+        }
+    }
+    println!();
+}
+
+pub fn ratios() {
     let all: Vec<Vec<Line>> = CALLS.iter().map(|&call| table(call)).collect();
     cycles();
     summary(&all);
