@@ -21,6 +21,10 @@ roadOf n distances outbound inbound =
       rounded = roundedLinks n distances outbound inbound;
     }
 
+-- the road that is put together of a count, two arrays and m
+abbrev pub laid : ℕ → List ℕ → List ℕ → ℕ → Road
+laid n outbound inbound m = record { signals = n; outbound = outbound; inbound = inbound; rounded = m }
+
 -- what holds of every road whose distances and speeds passed their checks; its inbound times grow along it, so that none is above signal n's
 pub record Paved (r : Road) : Type 0 where
   pub some : minSignals ≤ r .signals

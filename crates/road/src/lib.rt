@@ -3,9 +3,10 @@
 mod times;
 
 ghost use mathlib.Core.Path.{_≡_};
-ghost use lib.ListN.{length};
+ghost use lib.ListN.{length, replicate};
+ghost use Rattle.road.specs.Limits.{maxSignals};
 ghost use Rattle.road.specs.Times.{Driveable};
-ghost use Rattle.road.specs.Roads.{roadOf};
+ghost use Rattle.road.specs.Roads.{roadOf, laid};
 
 // A road: how many signals, for each the outbound ticks from signal 1 to it and the inbound ticks from it to signal 1, and the
 // number of links with a rounded time. Entries from `signals` on are 0.
@@ -20,14 +21,18 @@ impl Road {
     // The most signals that a road can have: every array of a road or a street has as many entries.
     pub const MAX_SIGNALS: usize = 32;
 
-    // The road of distances and speeds that passed their checks. Each link's two times are worked out once, and m is counted from
-    // the same answers.
-    pub fn new(distances: &[u32], outbound: &[u32], inbound: &[u32]) -> Road
-        requires { ⌜ Driveable (now distances) (now outbound) × Driveable (now distances) (now inbound) ⌝ }
-        ensures { λ r. ⌜ r ≡ roadOf (length (now (distances .entry))) (now (distances .entry)) (now (outbound .entry)) (now (inbound .entry)) ⌝ }
+    // Lays the road of distances and speeds that passed their checks into two arrays of zeros, the ticks to each signal in either
+    // direction, and answers m. Each link's two times are worked out once, and m is counted from the same answers.
+    pub fn fill(
+        distances: &[u32],
+        outbound: &[u32],
+        inbound: &[u32],
+        out: &mut [u32; Road::MAX_SIGNALS],
+        back: &mut [u32; Road::MAX_SIGNALS],
+    ) -> u32
+        requires { ⌜ Driveable (now distances) (now outbound) × Driveable (now distances) (now inbound) × (now out ≡ replicate maxSignals 0) × (now back ≡ replicate maxSignals 0) ⌝ }
+        ensures { λ r. ⌜ laid (length (now (distances .entry))) (now (out .exit)) (now (back .exit)) r ≡ roadOf (length (now (distances .entry))) (now (distances .entry)) (now (outbound .entry)) (now (inbound .entry)) ⌝ }
     {
-        let mut out = [0u32; Road::MAX_SIGNALS];
-        let mut back = [0u32; Road::MAX_SIGNALS];
         let mut there: u32 = 0;
         let mut home: u32 = 0;
         let mut rounded: u32 = 0;
@@ -41,11 +46,6 @@ impl Road {
             out[k] = there;
             back[k] = home;
         }
-        Road {
-            signals: distances.len(),
-            outbound: out,
-            inbound: back,
-            rounded,
-        }
+        rounded
     }
 }

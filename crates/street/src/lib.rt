@@ -5,14 +5,14 @@ pub mod checks;
 use road::Road;
 ghost use mathlib.Core.Path.{_≡_};
 ghost use Prim.Native.Nat.{_≤_};
-ghost use lib.ListN.{length, getD};
+ghost use lib.ListN.{length, getD, replicate};
 ghost use Rattle.road.specs.Limits.{minSignals, maxSignals, maxDistance, minSpeed, maxSpeed};
 ghost use Rattle.road.specs.Roads.{padded};
 ghost use Rattle.street.specs.Limits.{minCycle, maxCycle, minRed, maxPlatoon};
 ghost use Rattle.street.specs.Lists.{typed};
 ghost use Rattle.street.specs.Codes.{codeNumber};
-ghost use Rattle.street.specs.Checks.{refuse, planChecks};
-ghost use Rattle.street.specs.Streets.{surveyed, streetOf, noStreet};
+ghost use Rattle.street.specs.Checks.{refuse};
+ghost use Rattle.street.specs.Streets.{surveyed};
 
 // The refusals of document 01, in the order of its table; `code_number` answers the number of each.
 pub enum Code {
@@ -78,18 +78,16 @@ pub struct Surveyed {
     pub street: Street,
 }
 
-// A list as the entries of a street.
-fn copied(list: &[u32]) -> [u32; Street::MAX_SIGNALS]
-    requires { ⌜ length (now list) ≤ maxSignals ⌝ }
-    ensures { λ r. ⌜ r ≡ padded (length (now (list .entry))) (λ j. getD (now (list .entry)) j 0) ⌝ }
+// A list as the entries of a street: copied into an array of zeros.
+fn copied(list: &[u32], all: &mut [u32; Street::MAX_SIGNALS])
+    requires { ⌜ (length (now list) ≤ maxSignals) × (now all ≡ replicate maxSignals 0) ⌝ }
+    ensures { λ _. ⌜ now (all .exit) ≡ padded (length (now (list .entry))) (λ j. getD (now (list .entry)) j 0) ⌝ }
 {
-    let mut all = [0u32; Street::MAX_SIGNALS];
     let mut i: usize = 0;
     while i < list.len() {
         all[i] = list[i];
         i += 1;
     }
-    all
 }
 
 impl Street {
@@ -112,42 +110,8 @@ impl Street {
 
     pub const MAX_PLATOON: u32 = 100_000;
 
-    // The street that stands beside a refusal: every number 0.
-    fn none() -> Street
-        ensures { λ r. ⌜ r ≡ noStreet ⌝ }
-    {
-        Street {
-            road: Road {
-                signals: 0,
-                outbound: [0u32; Street::MAX_SIGNALS],
-                inbound: [0u32; Street::MAX_SIGNALS],
-                rounded: 0,
-            },
-            cycle: 0,
-            reds: [0u32; Street::MAX_SIGNALS],
-        }
-    }
-
-    // The street of lists that pass every check.
-    fn built(
-        cycle: u32,
-        reds: &[u32],
-        distances: &[u32],
-        outbound: &[u32],
-        inbound: &[u32],
-        lent: usize,
-    ) -> Street
-        requires { ⌜ planChecks (typed cycle (now reds) (now distances) (now outbound) (now inbound)) lent ≡ Verdict.Passed ⌝ }
-        ensures { λ r. ⌜ r ≡ streetOf (typed cycle (now (reds .entry)) (now (distances .entry)) (now (outbound .entry)) (now (inbound .entry))) ⌝ }
-    {
-        Street {
-            road: Road::new(distances, outbound, inbound),
-            cycle,
-            reds: copied(reds),
-        }
-    }
-
-    // The constructor: every check of a plan over a lent list of `lent` entries, in document 01's order, and then the street.
+    // The constructor: every check of a plan over a lent list of `lent` entries, in document 01's order, and then the street. Its
+    // arrays are filled where they stand and put together once, whatever the verdict: a refusal leaves every number 0.
     pub fn new(
         cycle: u32,
         reds: &[u32],
@@ -159,14 +123,29 @@ impl Street {
         ensures { λ r. ⌜ r ≡ surveyed (typed cycle (now (reds .entry)) (now (distances .entry)) (now (outbound .entry)) (now (inbound .entry))) lent ⌝ }
     {
         let verdict = checks::judged(cycle, reds, distances, outbound, inbound, lent);
-        match verdict {
-            Verdict::Refused(f) => Surveyed {
-                verdict: Verdict::Refused(f),
-                street: Street::none(),
-            },
-            Verdict::Passed => Surveyed {
-                verdict: Verdict::Passed,
-                street: Street::built(cycle, reds, distances, outbound, inbound, lent),
+        let mut out = [0u32; Street::MAX_SIGNALS];
+        let mut back = [0u32; Street::MAX_SIGNALS];
+        let mut stops = [0u32; Street::MAX_SIGNALS];
+        let mut signals: usize = 0;
+        let mut ticks: u32 = 0;
+        let mut rounded: u32 = 0;
+        if let Verdict::Passed = verdict {
+            rounded = Road::fill(distances, outbound, inbound, &mut out, &mut back);
+            copied(reds, &mut stops);
+            signals = distances.len();
+            ticks = cycle;
+        }
+        Surveyed {
+            verdict,
+            street: Street {
+                road: Road {
+                    signals,
+                    outbound: out,
+                    inbound: back,
+                    rounded,
+                },
+                cycle: ticks,
+                reds: stops,
             },
         }
     }

@@ -20,7 +20,7 @@ abbrev μ-loop : tie.MeasureT-loop
 
 loop-holds : tie.Need-loop-holds Inv-loop μ-loop
 unfolding listBelow
-loop-holds c = (search needs, refl)
+loop-holds c = (search needs, c .pre .1)
 
 mul-all : tie.Need-mul-all Inv-loop μ-loop
 mul-all c = search needs
@@ -31,8 +31,8 @@ shared-slice-read-all c = search needs
 mul-all-2 : tie.Need-mul-all-2 Inv-loop μ-loop
 mul-all-2 c = search needs
 
-array-write-all : tie.Need-array-write-all Inv-loop μ-loop
-array-write-all c = omega arith
+element-write-all : tie.Need-element-write-all Inv-loop μ-loop
+element-write-all c = omega arith
 
 add-i : tie.Need-add-i Inv-loop μ-loop
 add-i c = search needs
@@ -56,7 +56,7 @@ copied-spec =
     mul-all
     shared-slice-read-all
     mul-all-2
-    array-write-all
+    element-write-all
     add-i
     loop-less
     loop-again

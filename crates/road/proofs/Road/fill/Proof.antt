@@ -1,5 +1,5 @@
--- `road::Road::new` meets its contract. The loop's invariant: both sums are the times to the signal at `k`, m is counted over the links before it, and each array holds
--- the times up to it. Assumes nothing.
+-- `road::Road::fill` meets its contract. The loop's invariant: both sums are the times to the signal at `k`, m is counted over the links before it, and each array holds
+-- the times up to it and zeros behind them. Assumes nothing.
 use Prim.Native.Nat.{ℕ, _+_, _-_, _≤_, _<_}
 use mathlib.Core.Path.{_≡_, refl, ap, _∙_}
 use mathlib.Core.Bool.{cond}
@@ -13,8 +13,8 @@ use Rattle.road.specs.Limits.{maxSignals, maxTime}
 use Rattle.road.specs.Times.{linkTicks, timeTo, roundedLink, Driveable}
 use Rattle.road.specs.Roads.{padded}
 use Rattle.road.proofs.TimeLaws.{sum-step, mark-small, time-small, time-far, count-small}
-use Rattle.road.proofs.Road.new.Statement.{statement}
-use Rattle.road.proofs.Road.new.Tie as tie
+use Rattle.road.proofs.Road.fill.Statement.{statement}
+use Rattle.road.proofs.Road.fill.Tie as tie
 
 -- an array that holds the times to the signals up to one
 abbrev Holds : List ℕ → List ℕ → ℕ → List ℕ → Type 0
@@ -40,7 +40,7 @@ abbrev μ-loop : tie.MeasureT-loop
 
 loop-holds : tie.Need-loop-holds Inv-loop μ-loop
 unfolding listBelow sumBelow
-loop-holds c = (search needs, refl, refl, refl, refl, refl)
+loop-holds c = let c0 = c .before .before .before in (search needs, refl, refl, refl, c0 .pre .2, c0 .pre .3)
 
 link-times-requires : tie.Need-link-times-requires Inv-loop μ-loop
 link-times-requires c κs = let c0 = c .before .before .before .before .before in (c0 .pre .0, c0 .pre .1, omega arith)
@@ -71,14 +71,14 @@ add-k c = search needs
 mul-out : tie.Need-mul-out Inv-loop μ-loop
 mul-out c = search needs
 
-array-write-out : tie.Need-array-write-out Inv-loop μ-loop
-array-write-out c = search needs
+element-write-out : tie.Need-element-write-out Inv-loop μ-loop
+element-write-out c = search needs
 
 mul-back : tie.Need-mul-back Inv-loop μ-loop
 mul-back c = search needs
 
-array-write-back : tie.Need-array-write-back Inv-loop μ-loop
-array-write-back c = search needs
+element-write-back : tie.Need-element-write-back Inv-loop μ-loop
+element-write-back c = search needs
 
 loop-less : tie.Need-loop-less Inv-loop μ-loop
 loop-less c = search needs
@@ -119,8 +119,8 @@ returns c =
       rounded = (at .inv .3 ∙ ap (λ (n : ℕ). countBelow n (roundedLink ds out back)) links) i;
     }
 
-pub new-spec : {M : Type 1} → statement M
-new-spec =
+pub fill-spec : {M : Type 1} → statement M
+fill-spec =
     tie.close
     (tie.spec
     Inv-loop
@@ -132,9 +132,9 @@ new-spec =
     add-rounded
     add-k
     mul-out
-    array-write-out
+    element-write-out
     mul-back
-    array-write-back
+    element-write-back
     loop-less
     loop-again
     returns)
