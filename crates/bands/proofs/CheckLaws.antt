@@ -9,13 +9,13 @@ use native.Mathlib.Omega.{arith}
 use lib.ListN.{length, getD}
 use lib.Dec.{eqb}
 use borrow.Author.Tests.{eq-eqb, ne-eqb, le-leb, leb-false}
+use Rattle.circle.specs.Method.{Timed}
 use Rattle.circle.specs.Over.{firstBelow, _and_}
 use Rattle.circle.proofs.Numbers.{first-none}
 use Rattle.road.specs.Limits.{minSignals, maxSignals}
 use Rattle.street.specs.Lists.{Lists, signals}
 use Rattle.street.specs.Checks.{within, refuse, unless, orNext, firstFault, countCheck, roomCheck, cycleCheck, counts, numberChecks, planChecks}
 use Rattle.street.specs.declared.Code.the-variants.{Count, Room, Offset}
-use Rattle.street.specs.declared.Street.{Street}
 use Rattle.street.specs.declared.Verdict.{Verdict}
 use Rattle.street.proofs.CheckLaws.{last-check}
 use Rattle.street.proofs.Passed.{first-of-both, no-fault}
@@ -55,7 +55,7 @@ module _ (l : Lists) (offsets : List ℕ) where
       ∙ ap (λ t. orNext (orNext (counts l) (orNext (unless t Room) (firstFault (ranges [])))) last) (sym (le-leb (signals l) (signals l) self))
 
 -- the offsets' check passed: each is on the cycle
-pub placed-on : (s : Street) (offsets : List ℕ) → length offsets ≡ s .road .signals → offsetCheck (s .cycle) offsets ≡ verdict.Passed → Placed s offsets
+pub placed-on : (s : Timed) (offsets : List ℕ) → length offsets ≡ s .signals → offsetCheck (s .cycle) offsets ≡ verdict.Passed → Placed s offsets
 unfolding offsetCheck
 placed-on s offsets count e =
     record {

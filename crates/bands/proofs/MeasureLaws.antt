@@ -5,13 +5,11 @@ use mathlib.Core.Path.{_≡_, sym, ap, _∙_}
 use mathlib.Core.List.{List}
 use native.Mathlib.Omega.{arith}
 use lib.IntN.{pos, _-ℤ_}
-use lib.ListN.{length, getD, drop, replicate}
+use lib.ListN.{length, getD}
 use Rattle.circle.specs.Method.{Timed, halves, redStart}
 use Rattle.circle.specs.Bands.{Way, outboundWay, inboundWay}
-use Rattle.circle.proofs.Numbers.{man-lt, getD-listBelow}
+use Rattle.circle.proofs.Numbers.{man-lt}
 use Rattle.circle.proofs.Stretches.{outbound-alike, inbound-alike}
-use Rattle.road.specs.Limits.{maxSignals}
-use Rattle.road.specs.Roads.{padded}
 use Rattle.street.specs.Lists.{Lists, signals}
 use Rattle.street.specs.Checks.{orNext, planChecks}
 use Rattle.street.specs.Streets.{timed, streetOf, timedStreet, Sound}
@@ -24,7 +22,7 @@ use Rattle.stretches.specs.declared.Band.{Band}
 use Rattle.stretches.specs.Stretches.{bandOf}
 use Rattle.bands.specs.declared.Direction.{Direction}
 use Rattle.bands.specs.declared.Measurement.{Measurement}
-use Rattle.bands.specs.Search.{lagOf, endOf, seen}
+use Rattle.bands.specs.Search.{lagOf, Ended, seen}
 use Rattle.bands.specs.Measure.{offsetCheck, measuredOf, foundOr, measurementOf}
 use Rattle.bands.specs.declared.Measurement.the-variants as measurement
 use Rattle.bands.proofs.SearchLaws.{OnCycle, seen-alike, band-alike}
@@ -41,27 +39,19 @@ wayOf direction s offsets =
       lag = lagOf direction s;
     }
 
-module _ (s : Street) (ok : Sound s) (direction : Direction) (offsets ends : List ℕ) (is : ends ≡ padded (s .road .signals) (endOf direction (timedStreet s) offsets)) where
-  end-at : (j : ℕ) → j < s .road .signals → getD ends j 0 ≡ endOf direction (timedStreet s) offsets j
-  end-at j l =
-      ap (λ xs. getD xs j 0) is
-      ∙ getD-listBelow (s .road .signals) (endOf direction (timedStreet s) offsets) (drop (s .road .signals) (replicate maxSignals 0)) j 0 l
-
+module _ (s : Timed) (ok : Sound s) (direction : Direction) (offsets ends : List ℕ) (ended : Ended direction s offsets ends) where
   pub ends-on : OnCycle s ends
   ends-on =
-      let H = halves (timedStreet s) in
-      let turns : 0 < H = omega (arith, ok .shortest) in
+      let turns : 0 < halves s = omega (arith, ok .shortest) in
       record {
-        each =
-            λ j l.
-            omega (arith, end-at j l, man-lt H (pos (getD offsets j 0 + getD (s .reds) j 0) -ℤ pos (lagOf direction (timedStreet s) j)) turns);
+        each = λ j l. omega (arith, ended .each j l, man-lt (halves s) (pos (getD offsets j 0 + s .red j) -ℤ pos (lagOf direction s j)) turns);
       }
 
-  pub band-way : (b : Band) → b ≡ bandOf (seen (timedStreet s) ends) → b ≡ bandOf (wayOf direction (timedStreet s) offsets)
+  pub band-way : (b : Band) → b ≡ bandOf (seen s ends) → b ≡ bandOf (wayOf direction s offsets)
   band-way b e =
       e
-      ∙ band-alike (seen (timedStreet s) ends) (wayOf direction (timedStreet s) offsets)
-      (seen-alike (timedStreet s) offsets ends (lagOf direction (timedStreet s)) (omega (arith, ok .shortest)) end-at)
+      ∙ band-alike (seen s ends) (wayOf direction s offsets)
+      (seen-alike s offsets ends (lagOf direction s) (omega (arith, ok .shortest)) (ended .each))
 
 -- the street's measure is the lists'
 pub measured-agree : (l : Lists) (room : ℕ) (offsets : List ℕ) → planChecks l room ≡ verdict.Passed → measuredOf (timedStreet (streetOf l)) offsets ≡ measuredOf (timed l) offsets

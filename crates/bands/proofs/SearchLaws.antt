@@ -10,17 +10,16 @@ use Rattle.circle.specs.Method.{Timed, halves, redStart}
 use Rattle.circle.specs.Bands.{Way, width}
 use Rattle.circle.proofs.Numbers.{man-lt, man-is, man-turns}
 use Rattle.circle.proofs.Stretches.{past, Alike, width-alike, start-alike}
-use Rattle.street.specs.Streets.{timedStreet, Sound}
-use Rattle.street.specs.declared.Street.{Street}
+use Rattle.street.specs.Streets.{Sound}
 use Rattle.stretches.specs.Stretches.{Fitting, bandOf}
 use Rattle.bands.specs.Search.{seen}
 
 -- an instant on the cycle for each signal, from 0 to H - 1
-pub record OnCycle (s : Street) (ends : List ℕ) : Type 0 where
-  pub each : (j : ℕ) → j < s .road .signals → getD ends j 0 < halves (timedStreet s)
+pub record OnCycle (s : Timed) (ends : List ℕ) : Type 0 where
+  pub each : (j : ℕ) → j < s .signals → getD ends j 0 < halves s
 
 -- a sound street's reds fit its cycle
-pub fitting : (s : Street) (ends : List ℕ) → Sound s → OnCycle s ends → Fitting (halves (timedStreet s)) (s .road .signals) (timedStreet s .red) ends
+pub fitting : (s : Timed) (ends : List ℕ) → Sound s → OnCycle s ends → Fitting (halves s) (s .signals) (s .red) ends
 fitting s ends ok on =
     record {
       turns = omega (arith, ok .shortest);

@@ -7,8 +7,6 @@ use lib.ListN.{length, getD}
 use Rattle.circle.specs.Man.{man}
 use Rattle.circle.specs.Method.{Timed, halves}
 use Rattle.circle.specs.Bands.{Way}
-use Rattle.street.specs.Streets.{timedStreet}
-use Rattle.street.specs.declared.Street.{Street}
 use Rattle.stretches.specs.Stretches.{seenBy}
 use Rattle.bands.specs.declared.Direction.{Direction}
 use Rattle.bands.specs.declared.Direction.the-variants.{Outbound, Inbound}
@@ -27,9 +25,13 @@ abbrev pub endOf : Direction → Timed → List ℕ → ℕ → ℕ
 endOf direction s offsets j = man (halves s) (pos (getD offsets j 0 + s .red j) -ℤ pos (lagOf direction s j))
 
 -- an offset for each signal, each below H (01, 'Red, departure, band')
-pub record Placed (s : Street) (offsets : List ℕ) : Type 0 where
-  pub count : length offsets ≡ s .road .signals
-  pub each : (j : ℕ) → j < s .road .signals → getD offsets j 0 < halves (timedStreet s)
+pub record Placed (s : Timed) (offsets : List ℕ) : Type 0 where
+  pub count : length offsets ≡ s .signals
+  pub each : (j : ℕ) → j < s .signals → getD offsets j 0 < halves s
+
+-- a direction's red end for each signal
+pub record Ended (direction : Direction) (s : Timed) (offsets ends : List ℕ) : Type 0 where
+  pub each : (j : ℕ) → j < s .signals → getD ends j 0 ≡ endOf direction s offsets j
 
 -- the same for a street (01, 'Red, departure, band')
 abbrev pub seen : Timed → List ℕ → Way

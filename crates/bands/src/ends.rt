@@ -4,10 +4,10 @@ use crate::Direction;
 use street::Street;
 ghost use mathlib.Core.Path.{_≡_};
 ghost use Prim.Native.Nat.{_≤_};
+ghost use lib.ListN.{length};
 ghost use Rattle.road.specs.Limits.{maxTime};
-ghost use Rattle.road.specs.Roads.{padded};
-ghost use Rattle.street.specs.Streets.{timedStreet, Sound};
-ghost use Rattle.bands.specs.Search.{lagBy, endOf, Placed};
+ghost use Rattle.street.specs.Streets.{timedBy, Sound};
+ghost use Rattle.bands.specs.Search.{lagBy, Placed, Ended};
 
 // How long after its departure a car is at a signal, in halves. Outbound it departs at signal 1, inbound at signal n, whose inbound
 // time is `last`.
@@ -21,21 +21,27 @@ fn lag(direction: Direction, out: u32, back: u32, last: u32) -> u32
     }
 }
 
-// Every signal's red end.
-pub fn ends(s: Street, offsets: &[u32], direction: Direction) -> [u32; Street::MAX_SIGNALS]
-    requires { ⌜ Sound s × Placed s (now offsets) ⌝ }
-    ensures { λ r. ⌜ r ≡ padded (s .road .signals) (endOf direction (timedStreet s) (now (offsets .entry))) ⌝ }
+// Writes every signal's red end into the first entries.
+pub fn ends(
+    cycle: u32,
+    n: usize,
+    reds: &[u32; Street::MAX_SIGNALS],
+    outbound: &[u32; Street::MAX_SIGNALS],
+    inbound: &[u32; Street::MAX_SIGNALS],
+    offsets: &[u32],
+    direction: Direction,
+    all: &mut [u32; Street::MAX_SIGNALS],
+)
+    requires { ⌜ Sound (timedBy cycle n (now reds) (now outbound) (now inbound)) × Placed (timedBy cycle n (now reds) (now outbound) (now inbound)) (now offsets) × (n ≤ length (now all)) ⌝ }
+    ensures { λ _. ⌜ Ended direction (timedBy cycle n (now (reds .entry)) (now (outbound .entry)) (now (inbound .entry))) (now (offsets .entry)) (now (all .exit)) ⌝ }
 {
-    let road = s.road;
-    let n = road.signals;
-    let h = 2 * s.cycle;
-    let last = road.inbound[n - 1];
-    let mut all = [0u32; Street::MAX_SIGNALS];
+    let count = street::bounded(n);
+    let h = 2 * cycle;
+    let last = inbound[n - 1];
     let mut j: usize = 0;
-    while j < n {
-        let after = lag(direction, road.outbound[j], road.inbound[j], last);
-        all[j] = circle::remainder(h, offsets[j] + s.reds[j], after);
+    while j < count {
+        let after = lag(direction, outbound[j], inbound[j], last);
+        all[j] = circle::remainder(h, offsets[j] + reds[j], after);
         j += 1;
     }
-    all
 }

@@ -53,25 +53,45 @@ fn offset(cycle: u32, offsets: &[u32]) -> Verdict
 
 // The band of each direction: one search over the red ends, brought back to where that direction departs.
 fn bands(s: Street, offsets: &[u32]) -> Measured
-    requires { ⌜ Sound s × Placed s (now offsets) ⌝ }
+    requires { ⌜ Sound (timedStreet s) × Placed (timedStreet s) (now offsets) ⌝ }
     ensures { λ r. ⌜ r ≡ measuredOf (timedStreet s) (now (offsets .entry)) ⌝ }
 {
-    let n = s.road.signals;
+    let road = s.road;
+    let n = road.signals;
     let h = 2 * s.cycle;
     let reds = s.reds;
-    let out_ends = ends::ends(s, offsets, Direction::Outbound);
-    let out = stretches::widest(h, n, &reds, &out_ends);
-    let back_ends = ends::ends(s, offsets, Direction::Inbound);
-    let back = stretches::widest(h, n, &reds, &back_ends);
-    Measured {
-        outbound: out,
-        inbound: back,
-    }
+    let out = road.outbound;
+    let back = road.inbound;
+    let mut out_ends = [0u32; Street::MAX_SIGNALS];
+    ends::ends(
+        s.cycle,
+        n,
+        &reds,
+        &out,
+        &back,
+        offsets,
+        Direction::Outbound,
+        &mut out_ends,
+    );
+    let outbound = stretches::widest(h, n, &reds, &out_ends);
+    let mut back_ends = [0u32; Street::MAX_SIGNALS];
+    ends::ends(
+        s.cycle,
+        n,
+        &reds,
+        &out,
+        &back,
+        offsets,
+        Direction::Inbound,
+        &mut back_ends,
+    );
+    let inbound = stretches::widest(h, n, &reds, &back_ends);
+    Measured { outbound, inbound }
 }
 
 // The measure on a street whose own checks have passed.
 fn on_street(s: Street, offsets: &[u32]) -> Measurement
-    requires { ⌜ Sound s × (length (now offsets) ≡ s .road .signals) ⌝ }
+    requires { ⌜ Sound (timedStreet s) × (length (now offsets) ≡ s .road .signals) ⌝ }
     ensures { λ r. ⌜ r ≡ foundOr (offsetCheck (s .cycle) (now (offsets .entry))) (measuredOf (timedStreet s) (now (offsets .entry))) ⌝ }
 {
     let verdict = offset(s.cycle, offsets);

@@ -18,8 +18,7 @@ use Rattle.circle.proofs.Numbers.{getD-listBelow, man-lt, man-is, man-turns}
 use Rattle.circle.proofs.Formulas.{reference-lt, Fit, B⁺, phase-test, outbound-lowering, inbound-lowering}
 use Rattle.circle.proofs.Stretches.{offset-turns}
 use Rattle.road.specs.Limits.{maxTime}
-use Rattle.street.specs.Streets.{timedStreet, Sound}
-use Rattle.street.specs.declared.Street.{Street}
+use Rattle.street.specs.Streets.{Sound}
 use Rattle.search.specs.Search.{pairOf}
 use Rattle.search.proofs.Pairs.{Pair, pair-widths}
 use Rattle.search.proofs.Leading.{fit-sound}
@@ -79,12 +78,12 @@ module _ (s : Timed) (fit : Fit s) (c j : ℕ) (l : j < s .signals) (w : List �
       go false = omega (arith, ok .odd, fit .goes j l)
 
 -- the reference is one of the signals
-pub ready-lt : (s : Street) (x : List ℕ) (c raised : ℕ) → Ready s x c raised → c < s .road .signals
-ready-lt s x c raised ok = omega (arith, ok .found, reference-lt (timedStreet s) (ok .base .sound .road .some))
+pub ready-lt : (s : Timed) (x : List ℕ) (c raised : ℕ) → Ready s x c raised → c < s .signals
+ready-lt s x c raised ok = omega (arith, ok .found, reference-lt s (ok .base .sound .some))
 
 -- one side of an offset is small enough that no sum wraps
-pub side-small : (s : Street) (i j : ℕ) → Sound s → i < s .road .signals → j < s .road .signals → getD (s .road .outbound) i 0 + getD (s .road .inbound) j 0 ≤ 2 * maxTime
-side-small s i j ok li lj = omega (arith, ok .road .out i li, ok .road .back j lj)
+pub side-small : (s : Timed) (i j : ℕ) → Sound s → i < s .signals → j < s .signals → s .outbound i + s .inbound j ≤ 2 * maxTime
+side-small s i j ok li lj = omega (arith, ok .out i li, ok .back j lj)
 
 pub lowering-small : (raised red x : ℕ) (shift : Shift) → loweringOf shift raised red x ≤ shiftWidth shift + x + 2 * red
 lowering-small raised red x Unmoved = omega arith
@@ -122,31 +121,28 @@ offset-parts cycle raised shift from to red ahead behind better down r found low
     (lowers ∙ ap (λ x. loweringOf shift raised red (x .u)) found)
 
 -- what the code works out for a signal of a street is the signal's offset
-pub offset-at-is : (s : Street) (x : List ℕ) (c raised j r : ℕ) (shift : Shift) → Ready s x c raised → j < s .road .signals →
-    r ≡ offsetAt (s .cycle) raised shift (getD x c 0) (getD x j 0) (getD (s .reds) j 0)
-    (getD (s .road .outbound) j 0 + getD (s .road .inbound) c 0) (getD (s .road .outbound) c 0 + getD (s .road .inbound) j 0) → r ≡ movedOffset shift (timedStreet s) j
+pub offset-at-is : (s : Timed) (x : List ℕ) (c raised j r : ℕ) (shift : Shift) → Ready s x c raised → j < s .signals →
+    r ≡ offsetAt (s .cycle) raised shift (getD x c 0) (getD x j 0) (s .red j) (s .outbound j + s .inbound c) (s .outbound c + s .inbound j) → r ≡ movedOffset shift s j
 unfolding chosen
 offset-at-is s x c raised j r shift ok l e =
-    let z = timedStreet s in
     let fit = fit-sound s (ok .base .sound) in
     let lc = ready-lt s x c raised ok in
-    let w = pairOf (s .cycle) (getD x c 0) (getD x j 0) (z .red j) in
-    let better = betterOf (s .cycle) (z .red j) w in
-    let pair = pair-widths z c j (getD x c 0) (getD x j 0) w (fit .turns) (fit .goes j l) (ok .places .each c lc) (ok .places .each j l) refl in
-    let own : better .u ≡ chosen z j = better-u z fit c j l w pair ∙ ap (λ (k : ℕ). u z k j (phase z k j)) (ok .found) in
+    let w = pairOf (s .cycle) (getD x c 0) (getD x j 0) (s .red j) in
+    let better = betterOf (s .cycle) (s .red j) w in
+    let pair = pair-widths s c j (getD x c 0) (getD x j 0) w (fit .turns) (fit .goes j l) (ok .places .each c lc) (ok .places .each j l) refl in
+    let own : better .u ≡ chosen s j = better-u s fit c j l w pair ∙ ap (λ (k : ℕ). u s k j (phase s k j)) (ok .found) in
     e
-    ∙ moved-man z c j (better .phase) (loweringOf shift raised (z .red j) (better .u)) shift (omega (arith, fit .turns)) (ok .found)
-    (better-phase z fit c j l w pair)
-    (lowering-is z fit raised j (better .u) shift (raised-is s raised (ok .base)) own)
+    ∙ moved-man s c j (better .phase) (loweringOf shift raised (s .red j) (better .u)) shift (omega (arith, fit .turns)) (ok .found)
+    (better-phase s fit c j l w pair)
+    (lowering-is s fit raised j (better .u) shift (raised-is s raised (ok .base)) own)
 
 -- the reference's own offset, as it stands in a list that was written
-pub own-written : (s : Street) (x : List ℕ) (c raised : ℕ) (shift : Shift) (before after : List ℕ) → Ready s x c raised →
-    after ≡ listBelow (s .road .signals) (movedOffset shift (timedStreet s)) ++ drop (s .road .signals) before → getD after c 0 ≡ movedOffset shift (timedStreet s) (reference (timedStreet s))
+pub own-written : (s : Timed) (x : List ℕ) (c raised : ℕ) (shift : Shift) (before after : List ℕ) → Ready s x c raised →
+    after ≡ listBelow (s .signals) (movedOffset shift s) ++ drop (s .signals) before → getD after c 0 ≡ movedOffset shift s (reference s)
 own-written s x c raised shift before after ok wrote =
-    let z = timedStreet s in
     ap (λ xs. getD xs c 0) wrote
-    ∙ getD-listBelow (s .road .signals) (movedOffset shift z) (drop (s .road .signals) before) c 0 (ready-lt s x c raised ok)
-    ∙ ap (movedOffset shift z) (ok .found)
+    ∙ getD-listBelow (s .signals) (movedOffset shift s) (drop (s .signals) before) c 0 (ready-lt s x c raised ok)
+    ∙ ap (movedOffset shift s) (ok .found)
 
 pub moved-lt : (s : Timed) (shift : Shift) (j : ℕ) → 0 < s .cycle → movedOffset shift s j < halves s
 unfolding lowered

@@ -6,10 +6,8 @@ use mathlib.Core.List.{List}
 use lib.Dec.{leb}
 use lib.IntN.{pos, _-ℤ_}
 use lib.ListN.{getD}
-use Rattle.circle.specs.Method.{reference}
+use Rattle.circle.specs.Method.{Timed, reference}
 use Rattle.circle.specs.Man.{man}
-use Rattle.street.specs.Streets.{timedStreet}
-use Rattle.street.specs.declared.Street.{Street}
 use Rattle.search.specs.Search.{Reduced, pairOf}
 use Rattle.widths.specs.declared.Shift.{Shift}
 use Rattle.widths.specs.declared.Shift.the-variants.{Unmoved, Outbound, Inbound}
@@ -17,10 +15,10 @@ use Rattle.widths.specs.Moved.{Raised}
 use Rattle.offsets.specs.declared.Choice.{Choice}
 
 -- what a plan is made from: a sound street, its signals' places on the cycle, its reference and its B
-pub record Ready (s : Street) (x : List ℕ) (c raised : ℕ) : Type 0 where
+pub record Ready (s : Timed) (x : List ℕ) (c raised : ℕ) : Type 0 where
   pub base : Raised s raised
-  pub places : Reduced (timedStreet s) x
-  pub found : c ≡ reference (timedStreet s)
+  pub places : Reduced s x
+  pub found : c ≡ reference s
 
 -- phase 0 or the cycle, by a test, and the u of that phase out of a pair's two raised widths: a raised width is u + H - 2r
 abbrev pub choiceBy : ℕ → ℕ → List ℕ → Bool → Choice

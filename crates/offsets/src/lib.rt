@@ -9,7 +9,7 @@ ghost use lib.ListN.{length, drop};
 ghost use Rattle.circle.specs.Over.{listBelow};
 ghost use Rattle.road.specs.Limits.{maxTime};
 ghost use Rattle.street.specs.Limits.{maxCycle, maxHalves};
-ghost use Rattle.street.specs.Streets.{timedStreet};
+ghost use Rattle.street.specs.Streets.{timedBy};
 ghost use Rattle.widths.specs.Moved.{shiftWidth};
 ghost use Rattle.offsets.specs.Moved.{movedOffset};
 ghost use Rattle.offsets.specs.Steps.{Ready, choiceOf, loweringOf, offsetAt};
@@ -73,22 +73,23 @@ fn offset_at(
 
 // The first entries of the lent list become the offsets; the others stay.
 pub fn write(
-    s: Street,
-    x: [u32; Street::MAX_SIGNALS],
+    cycle: u32,
+    n: usize,
+    reds: &[u32; Street::MAX_SIGNALS],
+    outbound: &[u32; Street::MAX_SIGNALS],
+    inbound: &[u32; Street::MAX_SIGNALS],
+    x: &[u32; Street::MAX_SIGNALS],
     c: usize,
     raised: u32,
     shift: Shift,
     offsets: &mut [u32],
 )
-    requires { ⌜ Ready s x c raised × (shiftWidth shift ≤ maxHalves) × (s .road .signals ≤ length (now offsets)) ⌝ }
-    ensures { λ _. ⌜ now (offsets .exit) ≡ listBelow (s .road .signals) (movedOffset shift (timedStreet s)) ++ drop (s .road .signals) (now (offsets .entry)) ⌝ }
+    requires { ⌜ Ready (timedBy cycle n (now reds) (now outbound) (now inbound)) (now x) c raised × (shiftWidth shift ≤ maxHalves) × (n ≤ length (now offsets)) ⌝ }
+    ensures { λ _. ⌜ now (offsets .exit) ≡ listBelow n (movedOffset shift (timedBy cycle n (now (reds .entry)) (now (outbound .entry)) (now (inbound .entry)))) ++ drop n (now (offsets .entry)) ⌝ }
 {
-    let road = s.road;
-    let n = road.signals;
-    let cycle = s.cycle;
     let from = x[c];
-    let out = road.outbound[c];
-    let back = road.inbound[c];
+    let out = outbound[c];
+    let back = inbound[c];
     let mut j: usize = 0;
     while j < n {
         offsets[j] = offset_at(
@@ -97,9 +98,9 @@ pub fn write(
             shift,
             from,
             x[j],
-            s.reds[j],
-            road.outbound[j] + back,
-            out + road.inbound[j],
+            reds[j],
+            outbound[j] + back,
+            out + inbound[j],
         );
         j += 1;
     }

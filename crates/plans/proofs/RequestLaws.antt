@@ -90,7 +90,7 @@ pub requested-planned :
     after ≡ listBelow (s .road .signals) (movedOffset shift (timedStreet s)) ++ drop (s .road .signals) before →
     p ≡ movedPlan shift (timedStreet s) (s .road .rounded) → Requested asked l before after (answer.Planned p)
 requested-planned asked l before after s shift p passed is fits moves wrote planned =
-    let some : 0 < signals l = omega (arith, sound l (length before) passed .road .some) in
+    let some : 0 < signals l = omega (arith, sound l (length before) passed .some) in
     let agree = street-agrees l (length before) passed in
     let z = timedStreet (streetOf l) in
     let mine = shiftOf asked (timed l) in

@@ -45,7 +45,7 @@ fn signed(raised: u32, h: u32) -> i32
 
 // A plan's numbers, from what the search settled on, how far the request moves the equal plan, and the reference's own offset.
 fn numbers(s: Street, c: usize, raised: u32, shift: Shift, f: u32) -> Plan
-    requires { ⌜ Raised s raised × (c ≡ reference (timedStreet s)) × (shiftWidth shift ≤ maxHalves) × (f ≡ movedOffset shift (timedStreet s) (reference (timedStreet s))) ⌝ }
+    requires { ⌜ Raised (timedStreet s) raised × (c ≡ reference (timedStreet s)) × (shiftWidth shift ≤ maxHalves) × (f ≡ movedOffset shift (timedStreet s) (reference (timedStreet s))) ⌝ }
     ensures { λ r. ⌜ r ≡ movedPlan shift (timedStreet s) (s .road .rounded) ⌝ }
 {
     let h = 2 * s.cycle;
@@ -81,8 +81,14 @@ pub fn plan_for(
         return Answer::Refused(f);
     }
     let s = surveyed.street;
-    let x = search::reduced(s);
-    let found = search::reference(s, x);
+    let road = s.road;
+    let n = road.signals;
+    let stops = s.reds;
+    let out = road.outbound;
+    let back = road.inbound;
+    let mut x = [0u32; Street::MAX_SIGNALS];
+    search::reduce(s.cycle, n, &stops, &out, &back, &mut x);
+    let found = search::reference(s.cycle, n, &stops, &x);
     let c = found.signal;
     let raised = found.raised;
     let asked = widths::check(s, raised, request);
@@ -90,7 +96,18 @@ pub fn plan_for(
         Verdict::Refused(f) => Answer::Refused(f),
         Verdict::Passed => {
             let shift = widths::settle(s, raised, request);
-            offsets::write(s, x, c, raised, shift, offsets);
+            offsets::write(
+                s.cycle,
+                n,
+                &stops,
+                &out,
+                &back,
+                &x,
+                c,
+                raised,
+                shift,
+                offsets,
+            );
             let f = offsets[c];
             Answer::Planned(numbers(s, c, raised, shift, f))
         }

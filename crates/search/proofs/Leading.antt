@@ -13,8 +13,7 @@ use Rattle.circle.proofs.Numbers.{pos-minus, pos-sub, sub-injective, minBelow, 
 use Rattle.circle.proofs.Numbers.Over.{maxBelow}
 use Rattle.circle.proofs.Formulas.{Fit, larger-raised, b⁺-le, top, B-raised, reference-is}
 use Rattle.circle.proofs.Formulas.Raised.{b⁺}
-use Rattle.street.specs.Streets.{timedStreet, Sound}
-use Rattle.street.specs.declared.Street.{Street}
+use Rattle.street.specs.Streets.{timedWith, Sound}
 use Rattle.search.specs.Search.{signedOf, Row, wider, Reduced, Turning, Searched}
 use Rattle.search.proofs.Pairs.{Pair, pair-widths, place-lt}
 
@@ -75,22 +74,24 @@ row-set P widths i row q l here other = go (ℕ-discrete q i)
         subst (λ (k : ℕ). P k (getD (set widths i row) k [])) (sym e) (subst (P i) (sym (getD-set-same widths i row [] l)) here)
     go (no n) = subst (P q) (sym (getD-set-other widths i q row [] n)) (other n)
 
-pub fit-sound : (s : Street) → Sound s → Fit (timedStreet s)
-fit-sound s ok = record { some = ok .road .some; turns = omega (arith, ok .shortest); goes = ok .goes }
+pub fit-sound : (s : Timed) → Sound s → Fit s
+fit-sound s ok = record { some = ok .some; turns = omega (arith, ok .shortest); goes = ok .goes }
 
 -- a sound street's places lie on the cycle
-pub turning : (s : Street) (x : List ℕ) → Sound s → Reduced (timedStreet s) x → Turning (s .cycle) (s .road .signals) (s .reds) x
-turning s x ok places =
-    record { goes = ok .goes; on = λ k l. place-lt (timedStreet s) x k places l (omega (arith, ok .shortest)) }
+pub turning : (cycle n : ℕ) (reds x : List ℕ) (out back : ℕ → ℕ) → Sound (timedWith cycle n reds out back) → Reduced (timedWith cycle n reds out back) x → Turning cycle n reds x
+turning cycle n reds x out back ok places =
+    record { goes = ok .goes; on = λ k l. place-lt (timedWith cycle n reds out back) x k places l (omega (arith, ok .shortest)) }
 
 -- and the least of its row is a candidate's b(i)
-pub candidate-is : (s : Street) (x : List ℕ) (i : ℕ) (row : List (List ℕ)) (r : ℕ) → Sound s → Reduced (timedStreet s) x → i < s .road .signals →
-    Row (s .cycle) (s .road .signals) (s .reds) x i row → pos r ≡ leastBelow (s .road .signals) (λ j. pos (wider row j)) → r ≡ b⁺ (timedStreet s) i
-candidate-is s x i row r ok places l filled e =
-    let turns : 0 < s .cycle = omega (arith, ok .shortest) in
-    least-is (timedStreet s) (fit-sound s ok) i row r
+pub candidate-is : (cycle n : ℕ) (reds x : List ℕ) (out back : ℕ → ℕ) (i : ℕ) (row : List (List ℕ)) (r : ℕ) →
+    Sound (timedWith cycle n reds out back) → Reduced (timedWith cycle n reds out back) x → i < n →
+    Row cycle n reds x i row → pos r ≡ leastBelow n (λ j. pos (wider row j)) → r ≡ b⁺ (timedWith cycle n reds out back) i
+candidate-is cycle n reds x out back i row r ok places l filled e =
+    let s = timedWith cycle n reds out back in
+    let turns : 0 < cycle = omega (arith, ok .shortest) in
+    least-is s (fit-sound s ok) i row r
     (λ j h.
-    pair-widths (timedStreet s) i j (getD x i 0) (getD x j 0) (getD row j []) turns (ok .goes j h) (places .each i l) (places .each j h) (filled .each j h))
+    pair-widths s i j (getD x i 0) (getD x j 0) (getD row j []) turns (ok .goes j h) (places .each i l) (places .each j h) (filled .each j h))
     e
 
 -- who leads after all candidates is the reference, with B

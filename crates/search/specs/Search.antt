@@ -7,6 +7,7 @@ use lib.IntN.{ℤ, pos, _-ℤ_}
 use lib.ListN.{getD}
 use Rattle.circle.specs.Man.{man}
 use Rattle.circle.specs.Method.{Timed, halves, B, reference}
+use Rattle.street.specs.Streets.{timedWith, Sound}
 use Rattle.search.specs.declared.Candidate.{Candidate}
 
 -- a raised number as the signed number that it stands for
@@ -46,3 +47,7 @@ pub record Searched (s : Timed) (r : Candidate) : Type 0 where
   pub found : r .signal ≡ reference s
   pub width : signedOf s (r .raised) ≡ B s
   pub small : r .raised ≤ 4 * s .cycle
+
+-- the same of every sound street with this cycle, these reds and these places: the search sees no more of a street
+pub record Finds (cycle n : ℕ) (reds x : List ℕ) (r : Candidate) : Type 0 where
+  pub each : (outbound inbound : ℕ → ℕ) → Sound (timedWith cycle n reds outbound inbound) → Reduced (timedWith cycle n reds outbound inbound) x → Searched (timedWith cycle n reds outbound inbound) r

@@ -8,8 +8,8 @@ ghost use lib.ListN.{length};
 ghost use Rattle.circle.specs.Over.{leastBelow};
 ghost use Rattle.road.specs.Limits.{maxSignals};
 ghost use Rattle.street.specs.Limits.{maxCycle};
-ghost use Rattle.street.specs.Streets.{timedStreet, Sound};
-ghost use Rattle.search.specs.Search.{pairOf, Reduced, Turning, Row, wider, Searched};
+ghost use Rattle.street.specs.Streets.{timedBy, Sound};
+ghost use Rattle.search.specs.Search.{pairOf, Reduced, Turning, Row, wider, Finds};
 
 // What the search settles on: the reference's index, counted from 0, and B raised by H.
 pub struct Candidate {
@@ -17,21 +17,25 @@ pub struct Candidate {
     pub raised: u32,
 }
 
-// Each signal's place on the cycle: its red less its two sums.
-pub fn reduced(s: Street) -> [u32; Street::MAX_SIGNALS]
-    requires { ⌜ Sound s ⌝ }
-    ensures { λ r. ⌜ Reduced (timedStreet s) r ⌝ }
+// Writes each signal's place on the cycle: its red less its two sums.
+pub fn reduce(
+    cycle: u32,
+    n: usize,
+    reds: &[u32; Street::MAX_SIGNALS],
+    outbound: &[u32; Street::MAX_SIGNALS],
+    inbound: &[u32; Street::MAX_SIGNALS],
+    x: &mut [u32; Street::MAX_SIGNALS],
+)
+    requires { ⌜ Sound (timedBy cycle n (now reds) (now outbound) (now inbound)) × (n ≤ length (now x)) ⌝ }
+    ensures { λ _. ⌜ Reduced (timedBy cycle n (now (reds .entry)) (now (outbound .entry)) (now (inbound .entry))) (now (x .exit)) ⌝ }
 {
-    let road = s.road;
-    let n = road.signals;
-    let h = 2 * s.cycle;
-    let mut x = [0u32; Street::MAX_SIGNALS];
+    let count = street::bounded(n);
+    let h = 2 * cycle;
     let mut k: usize = 0;
-    while k < n {
-        x[k] = circle::remainder(h, s.reds[k], road.outbound[k] + road.inbound[k]);
+    while k < count {
+        x[k] = circle::remainder(h, reds[k], outbound[k] + inbound[k]);
         k += 1;
     }
-    x
 }
 
 // A pair's two raised widths, from the two signals' places on the cycle and the limit's red.
@@ -71,7 +75,7 @@ fn least(pairs: &[[u32; 2]; Street::MAX_SIGNALS], n: usize) -> u32
     ensures { λ r. ⌜ pos r ≡ leastBelow n (λ j. pos (wider (now (pairs .entry)) j)) ⌝ }
 {
     let mut low = circle::larger(pairs[0][0], pairs[0][1]);
-    let mut j: usize = 1;
+    let mut j: usize = 0;
     while j < n {
         low = circle::smaller(low, circle::larger(pairs[j][0], pairs[j][1]));
         j += 1;
@@ -81,24 +85,27 @@ fn least(pairs: &[[u32; 2]; Street::MAX_SIGNALS], n: usize) -> u32
 
 // The widths of every ordered pair under both phases, one row per candidate, filled once; and then the search over them for the
 // first candidate with the greatest b(i).
-pub fn reference(s: Street, x: [u32; Street::MAX_SIGNALS]) -> Candidate
-    requires { ⌜ Sound s × Reduced (timedStreet s) x ⌝ }
-    ensures { λ r. ⌜ Searched (timedStreet s) r ⌝ }
+pub fn reference(
+    cycle: u32,
+    n: usize,
+    reds: &[u32; Street::MAX_SIGNALS],
+    x: &[u32; Street::MAX_SIGNALS],
+) -> Candidate
+    requires { ⌜ (1 ≤ cycle) × (cycle ≤ maxCycle) × (1 ≤ n) × (n ≤ maxSignals) × Turning cycle n (now reds) (now x) ⌝ }
+    ensures { λ r. ⌜ Finds cycle n (now (reds .entry)) (now (x .entry)) r ⌝ }
 {
-    let n = s.road.signals;
-    let cycle = s.cycle;
-    let reds = s.reds;
+    let count = street::bounded(n);
     let mut widths = [[[0u32; 2]; Street::MAX_SIGNALS]; Street::MAX_SIGNALS];
     let mut i: usize = 0;
-    while i < n {
-        fill(cycle, &reds, &x, n, i, &mut widths[i]);
+    while i < count {
+        fill(cycle, reds, x, count, i, &mut widths[i]);
         i += 1;
     }
     let mut signal: usize = 0;
-    let mut raised = least(&widths[0], n);
+    let mut raised = least(&widths[0], count);
     let mut k: usize = 1;
-    while k < s.road.signals {
-        let candidate = least(&widths[k], n);
+    while k < count {
+        let candidate = least(&widths[k], count);
         if raised < candidate {
             raised = candidate;
             signal = k;

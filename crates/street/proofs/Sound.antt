@@ -14,11 +14,16 @@ use Rattle.street.specs.declared.Verdict.the-variants.{Passed, Refused}
 use Rattle.street.proofs.Passed.{clear}
 
 module _ (l : Lists) (room : ℕ) (passed : planChecks l room ≡ Passed) where
-  pub sound : Sound (streetOf l)
+  pub sound : Sound (timedStreet (streetOf l))
   sound =
       let ok = clear l room passed in
+      let road = paved (signals l) (l .distances) (l .outbound) (l .inbound) (omega arith) (ok .outbound) (ok .inbound) in
       record {
-        road = paved (signals l) (l .distances) (l .outbound) (l .inbound) (omega arith) (ok .outbound) (ok .inbound);
+        some = road .some;
+        few = road .few;
+        out = road .out;
+        back = road .back;
+        onward = road .onward;
         shortest = ok .cycle .low;
         longest = ok .cycle .high;
         stops = λ k h. omega (arith, getD-padded (signals l) (timed l .red) k h, ok .reds k h .low);
@@ -46,5 +51,5 @@ verdict-checks l room r v e q = sym (verdict-of (planChecks l room)) ∙ sym (ap
 pub passed-street : (l : Lists) (room : ℕ) (r : Surveyed) → r ≡ surveyed l room → planChecks l room ≡ Passed → r .street ≡ streetOf l
 passed-street l room r e p = ap (λ x. x .street) e ∙ ap (λ v. surveyedAs v (streetOf l) .street) p
 
-pub passed-sound : (l : Lists) (room : ℕ) (s : Street) → s ≡ streetOf l → planChecks l room ≡ Passed → Sound s
-passed-sound l room s e p = subst Sound (sym e) (sound l room p)
+pub passed-sound : (l : Lists) (room : ℕ) (s : Street) → s ≡ streetOf l → planChecks l room ≡ Passed → Sound (timedStreet s)
+passed-sound l room s e p = subst (λ x. Sound (timedStreet x)) (sym e) (sound l room p)

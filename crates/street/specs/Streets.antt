@@ -1,10 +1,11 @@
 -- The street that the search is handed, and what its constructor answers.
-use Prim.Native.Nat.{ℕ, _≤_, _<_}
+use Prim.Native.Nat.{ℕ, _-_, _≤_, _<_}
+use mathlib.Core.List.{List}
 use lib.ListN.{getD, replicate}
 use Rattle.circle.specs.Method.{Timed}
-use Rattle.road.specs.Limits.{maxSignals}
+use Rattle.road.specs.Limits.{minSignals, maxSignals, maxTime}
 use Rattle.road.specs.Times.{timeTo, roundedLinks}
-use Rattle.road.specs.Roads.{padded, roadOf, Paved}
+use Rattle.road.specs.Roads.{padded, roadOf}
 use Rattle.street.specs.Limits.{minCycle, maxCycle, minRed}
 use Rattle.street.specs.Lists.{Lists, signals}
 use Rattle.street.specs.Checks.{planChecks}
@@ -55,21 +56,27 @@ timed l =
       inbound = timeTo (l .distances) (l .inbound);
     }
 
--- the same of a street with its arrays
-abbrev pub timedStreet : Street → Timed
-timedStreet s =
-    record {
-      cycle = s .cycle;
-      signals = s .road .signals;
-      red = λ j. getD (s .reds) j 0;
-      outbound = λ j. getD (s .road .outbound) j 0;
-      inbound = λ j. getD (s .road .inbound) j 0;
-    }
+-- the same of a cycle, a number of signals and their reds, whatever the times are
+abbrev pub timedWith : ℕ → ℕ → List ℕ → (ℕ → ℕ) → (ℕ → ℕ) → Timed
+timedWith cycle n reds outbound inbound =
+    record { cycle = cycle; signals = n; red = λ j. getD reds j 0; outbound = outbound; inbound = inbound }
 
--- what holds of every street whose checks passed: what the search builds on
-pub record Sound (s : Street) : Type 0 where
-  pub road : Paved (s .road)
+-- with the times in arrays too, as a street's numbers are handed on one by one
+abbrev pub timedBy : ℕ → ℕ → List ℕ → List ℕ → List ℕ → Timed
+timedBy cycle n reds outbound inbound = timedWith cycle n reds (λ j. getD outbound j 0) (λ j. getD inbound j 0)
+
+-- and of a street
+abbrev pub timedStreet : Street → Timed
+timedStreet s = timedBy (s .cycle) (s .road .signals) (s .reds) (s .road .outbound) (s .road .inbound)
+
+-- what holds of every street whose checks passed: what the search builds on. Its inbound times grow along it, so that none is above signal n's
+pub record Sound (s : Timed) : Type 0 where
+  pub some : minSignals ≤ s .signals
+  pub few : s .signals ≤ maxSignals
+  pub out : (k : ℕ) → k < s .signals → s .outbound k ≤ maxTime
+  pub back : (k : ℕ) → k < s .signals → s .inbound k ≤ maxTime
+  pub onward : (k : ℕ) → k < s .signals → s .inbound k ≤ s .inbound (s .signals - 1)
   pub shortest : minCycle ≤ s .cycle
   pub longest : s .cycle ≤ maxCycle
-  pub stops : (k : ℕ) → k < s .road .signals → minRed ≤ getD (s .reds) k 0
-  pub goes : (k : ℕ) → k < s .road .signals → getD (s .reds) k 0 < s .cycle
+  pub stops : (k : ℕ) → k < s .signals → minRed ≤ s .red k
+  pub goes : (k : ℕ) → k < s .signals → s .red k < s .cycle

@@ -65,6 +65,18 @@ pub fn refused(code: Code, place: u32) -> Verdict
     Verdict::Refused(Refusal { code, place })
 }
 
+// A number of signals, as it was. It is small enough already; once it is tested here, the compiler knows that too, and unrolls the
+// loops that it bounds.
+pub fn bounded(signals: usize) -> usize
+    requires { ⌜ signals ≤ maxSignals ⌝ }
+    ensures { λ r. ⌜ r ≡ signals ⌝ }
+{
+    if signals > Street::MAX_SIGNALS {
+        return Street::MAX_SIGNALS;
+    }
+    signals
+}
+
 // A street whose checks have all passed, as the search needs it: a road, the cycle in ticks, and each signal's red in ticks.
 pub struct Street {
     pub road: Road,

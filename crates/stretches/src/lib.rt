@@ -76,11 +76,12 @@ pub fn widest(
     requires { ⌜ (h ≤ maxHalves) × (1 ≤ n) × (n ≤ maxSignals) × Fitting h n (λ j. getD (now reds) j 0) (now ends) ⌝ }
     ensures { λ r. ⌜ r ≡ bandOf (seenBy h n (λ j. getD (now (reds .entry)) j 0) (now (ends .entry))) ⌝ }
 {
+    let count = street::bounded(n);
     let mut best = Band { width: 0, start: 0 };
     let mut i: usize = 0;
-    while i < n {
+    while i < count {
         let start = ends[i];
-        let width = longest(h, n, reds, ends, start);
+        let width = longest(h, count, reds, ends, start);
         best = wider(best, Band { width, start });
         i += 1;
     }

@@ -13,9 +13,8 @@ use Rattle.circle.specs.Moved.{g, inRange, platoonWidth}
 use Rattle.circle.proofs.Formulas.{Fit, B⁺, B⁺-is, g-is, green-le, asked, asked-green, Agree, equalWidth-agree, platoon-le, inRange-agree, otherWidth-agree, platoonWidth-agree}
 use Rattle.street.specs.Limits.{maxCycle, maxHalves, maxPlatoon}
 use Rattle.street.specs.Checks.{unless, refuse, orNext}
-use Rattle.street.specs.Streets.{timedStreet, Sound}
+use Rattle.street.specs.Streets.{Sound}
 use Rattle.street.specs.declared.Code.the-variants.{Width, Platoon}
-use Rattle.street.specs.declared.Street.{Street}
 use Rattle.street.specs.declared.Verdict.the-variants.{Passed}
 use Rattle.street.proofs.CheckLaws.{passes}
 use Rattle.street.proofs.Passed.{first-passed, rest-passed}
@@ -29,8 +28,8 @@ use Rattle.widths.specs.declared.Shift.the-variants.{Unmoved, Outbound, 
 use Rattle.widths.specs.declared.Request.the-variants as request
 
 -- B raised, as the search found it
-pub raised-is : (s : Street) (raised : ℕ) → Raised s raised → raised ≡ B⁺ (timedStreet s)
-raised-is s raised ok = B⁺-is (timedStreet s) (fit-sound s (ok .sound)) raised (ok .width)
+pub raised-is : (s : Timed) (raised : ℕ) → Raised s raised → raised ≡ B⁺ s
+raised-is s raised ok = B⁺-is s (fit-sound s (ok .sound)) raised (ok .width)
 
 -- the check of a width, by the outcome of its test
 pub check-is : (s : Timed) (w : ℕ) (t : Bool) → inRange s w ≡ t → unless t Width ≡ widthCheck s w
@@ -90,15 +89,15 @@ platoon-shift-le s P Q = go (eqb P Q) (ltb Q P)
     go false true = platoon-le s P (P + Q)
     go false false = platoon-le s Q (P + Q)
 
-pub shift-small : (s : Street) (asked : Request) → Sound s → requestCheck asked (timedStreet s) ≡ verdict.Passed → shiftWidth (shiftOf asked (timedStreet s)) ≤ maxHalves
+pub shift-small : (s : Timed) (asked : Request) → Sound s → requestCheck asked s ≡ verdict.Passed → shiftWidth (shiftOf asked s) ≤ maxHalves
 shift-small s request.Equal ok e = omega arith
 shift-small s (request.Outbound w) ok e =
-    let fit = fit-sound s ok in omega (arith, range-le (timedStreet s) w fit e, widest-le (timedStreet s) fit, ok .longest)
+    let fit = fit-sound s ok in omega (arith, range-le s w fit e, widest-le s fit, ok .longest)
 shift-small s (request.Inbound w) ok e =
-    let fit = fit-sound s ok in omega (arith, range-le (timedStreet s) w fit e, widest-le (timedStreet s) fit, ok .longest)
+    let fit = fit-sound s ok in omega (arith, range-le s w fit e, widest-le s fit, ok .longest)
 shift-small s (request.Platoons P Q) ok e =
     let fit = fit-sound s ok in
-    omega (arith, platoon-shift-le (timedStreet s) P Q, widest-le (timedStreet s) fit, ok .longest)
+    omega (arith, platoon-shift-le s P Q, widest-le s fit, ok .longest)
 
 -- a request's check, shift, offsets and plan go by the signals alone
 module _ (s z : Timed) (agree : Agree s z) where

@@ -5,8 +5,7 @@ use mathlib.Core.Path.{_≡_}
 use lib.Dec.{ltb, eqb}
 use Rattle.circle.specs.Method.{Timed, B, equalWidth}
 use Rattle.circle.specs.Moved.{otherWidth, platoonWidth}
-use Rattle.street.specs.Streets.{timedStreet, Sound}
-use Rattle.street.specs.declared.Street.{Street}
+use Rattle.street.specs.Streets.{Sound}
 use Rattle.search.specs.Search.{signedOf}
 use Rattle.widths.specs.declared.Request.{Request}
 use Rattle.widths.specs.declared.Request.the-variants as request
@@ -15,9 +14,9 @@ use Rattle.widths.specs.declared.Shift.the-variants.{Unmoved, Outbound, 
 use Rattle.widths.specs.declared.Widths.{Widths}
 
 -- B of a sound street, raised by H; B is at most H
-pub record Raised (s : Street) (raised : ℕ) : Type 0 where
+pub record Raised (s : Timed) (raised : ℕ) : Type 0 where
   pub sound : Sound s
-  pub width : signedOf (timedStreet s) raised ≡ B (timedStreet s)
+  pub width : signedOf s raised ≡ B s
   pub small : raised ≤ 4 * s .cycle
 
 -- the platoon rule: nothing is moved for equal platoons, else the longer one's direction gets the width that the rule gives it (01, 'Platoons P outbound, Q inbound')

@@ -36,7 +36,7 @@ pub struct Widths {
 
 // g, the widest band that any signal lets through: the least H - 2r(j).
 fn widest(s: Street) -> u32
-    requires { ⌜ Sound s ⌝ }
+    requires { ⌜ Sound (timedStreet s) ⌝ }
     ensures { λ r. ⌜ pos r ≡ g (timedStreet s) ⌝ }
 {
     let n = s.road.signals;
@@ -52,7 +52,7 @@ fn widest(s: Street) -> u32
 
 // A requested width lies from the larger of 1 and B up to g.
 fn in_range(s: Street, raised: u32, width: u32) -> Verdict
-    requires { ⌜ Raised s raised ⌝ }
+    requires { ⌜ Raised (timedStreet s) raised ⌝ }
     ensures { λ r. ⌜ r ≡ widthCheck (timedStreet s) width ⌝ }
 {
     let most = widest(s);
@@ -83,7 +83,7 @@ fn short_enough(outbound: u32, inbound: u32) -> Verdict
 
 // The check of what a request adds to a plan's lists.
 pub fn check(s: Street, raised: u32, request: Request) -> Verdict
-    requires { ⌜ Raised s raised ⌝ }
+    requires { ⌜ Raised (timedStreet s) raised ⌝ }
     ensures { λ r. ⌜ r ≡ requestCheck request (timedStreet s) ⌝ }
 {
     match request {
@@ -104,7 +104,7 @@ fn portion(whole: u32, part: u32, sum: u32) -> u32
 
 // The width that the platoon rule gives the longer platoon, from its length and the sum of both.
 fn share(s: Street, raised: u32, longer: u32, sum: u32) -> u32
-    requires { ⌜ Raised s raised × (longer ≤ maxPlatoon) × (1 ≤ sum) × (sum ≤ 2 * maxPlatoon) ⌝ }
+    requires { ⌜ Raised (timedStreet s) raised × (longer ≤ maxPlatoon) × (1 ≤ sum) × (sum ≤ 2 * maxPlatoon) ⌝ }
     ensures { λ r. ⌜ r ≡ platoonWidth (timedStreet s) longer sum ⌝ }
 {
     let h = 2 * s.cycle;
@@ -121,7 +121,7 @@ fn share(s: Street, raised: u32, longer: u32, sum: u32) -> u32
 
 // The platoon rule: the longer platoon's direction is favoured, and neither when they are equal.
 fn favoured(s: Street, raised: u32, outbound: u32, inbound: u32) -> Shift
-    requires { ⌜ Raised s raised × (outbound ≤ maxPlatoon) × (inbound ≤ maxPlatoon) ⌝ }
+    requires { ⌜ Raised (timedStreet s) raised × (outbound ≤ maxPlatoon) × (inbound ≤ maxPlatoon) ⌝ }
     ensures { λ r. ⌜ r ≡ platoonShift (timedStreet s) outbound inbound ⌝ }
 {
     if outbound == inbound {
@@ -135,7 +135,7 @@ fn favoured(s: Street, raised: u32, outbound: u32, inbound: u32) -> Shift
 
 // What a request that passed its check comes to.
 pub fn settle(s: Street, raised: u32, request: Request) -> Shift
-    requires { ⌜ Raised s raised × (requestCheck request (timedStreet s) ≡ Verdict.Passed) ⌝ }
+    requires { ⌜ Raised (timedStreet s) raised × (requestCheck request (timedStreet s) ≡ Verdict.Passed) ⌝ }
     ensures { λ r. ⌜ r ≡ shiftOf request (timedStreet s) ⌝ }
 {
     match request {
@@ -148,7 +148,7 @@ pub fn settle(s: Street, raised: u32, request: Request) -> Shift
 
 // What a width for one direction leaves the other: 2B less it, or 0.
 fn other(s: Street, raised: u32, width: u32) -> u32
-    requires { ⌜ Raised s raised × (width ≤ maxHalves) ⌝ }
+    requires { ⌜ Raised (timedStreet s) raised × (width ≤ maxHalves) ⌝ }
     ensures { λ r. ⌜ r ≡ otherWidth (timedStreet s) width ⌝ }
 {
     circle::surplus(2 * raised, 4 * s.cycle + width)
@@ -156,7 +156,7 @@ fn other(s: Street, raised: u32, width: u32) -> u32
 
 // The two widths of a plan.
 pub fn reported(s: Street, raised: u32, shift: Shift) -> Widths
-    requires { ⌜ Raised s raised × (shiftWidth shift ≤ maxHalves) ⌝ }
+    requires { ⌜ Raised (timedStreet s) raised × (shiftWidth shift ≤ maxHalves) ⌝ }
     ensures { λ r. ⌜ r ≡ widthsOf shift (timedStreet s) ⌝ }
 {
     match shift {

@@ -21,7 +21,7 @@ bands-requires : tie.Need-bands-requires
 bands-requires c κs =
     let c0 = c .before .before .before .before in
     let passed = sym (c .before .before .offset .ensures) ∙ c .enum-told .given .1 in
-    (c0 .pre .0, placed-on (c0 .args .s) (c0 .args .offsets .now) (c0 .pre .1) passed)
+    (c0 .pre .0, placed-on (timedStreet (c0 .args .s)) (c0 .args .offsets .now) (c0 .pre .1) passed)
 
 returns : tie.Need-returns
 returns c =

@@ -16,7 +16,7 @@ use Rattle.plans.proofs.numbers.Statement.{statement}
 use Rattle.plans.proofs.numbers.Tie as tie
 
 reference-in : (c : tie.Start) → c .args .c < c .args .t1 .road .signals
-reference-in c = omega (arith, c .pre .1, reference-lt (timedStreet (c .args .t1)) (c .pre .0 .sound .road .some))
+reference-in c = omega (arith, c .pre .1, reference-lt (timedStreet (c .args .t1)) (c .pre .0 .sound .some))
 
 -- the reference's own offset lies on the cycle, and its red is shorter
 on-cycle : (c : tie.Start) → (c .args .f < 2 * c .args .t1 .cycle) × (getD (c .args .t1 .reds) (c .args .c) 0 < c .args .t1 .cycle) × (1 ≤ c .args .t1 .cycle) × (c .args .t1 .cycle ≤ maxCycle)
@@ -40,19 +40,19 @@ mul-h : tie.Need-mul-h
 mul-h c = search needs
 
 mul-red : tie.Need-mul-red
-mul-red c = omega (arith, reference-in c, c .pre .0 .sound .road .few)
+mul-red c = omega (arith, reference-in c, c .pre .0 .sound .few)
 
 element-copy-out-red : tie.Need-element-copy-out-red
-element-copy-out-red c = omega (arith, reference-in c, c .pre .0 .sound .road .few)
+element-copy-out-red c = omega (arith, reference-in c, c .pre .0 .sound .few)
 
 reported-requires : tie.Need-reported-requires
 reported-requires c κs = search needs
 
 add-t11 : tie.Need-add-t11
-add-t11 c = omega (arith, reference-in (c .before .before), c .before .before .pre .0 .sound .road .few)
+add-t11 c = omega (arith, reference-in (c .before .before), c .before .before .pre .0 .sound .few)
 
 cast-t10 : tie.Need-cast-t10
-cast-t10 c = omega (arith, reference-in (c .before .before), c .before .before .pre .0 .sound .road .few)
+cast-t10 c = omega (arith, reference-in (c .before .before), c .before .before .pre .0 .sound .few)
 
 signed-requires : tie.Need-signed-requires
 signed-requires c κs = search needs

@@ -14,6 +14,7 @@ use Rattle.street.specs.Streets.{streetOf, timedStreet, Sound}
 use Rattle.street.specs.declared.Surveyed.{Surveyed}
 use Rattle.street.specs.declared.Verdict.the-variants.{Passed}
 use Rattle.street.proofs.Sound.{verdict-checks, passed-street, passed-sound}
+use Rattle.search.proofs.Leading.{turning}
 use Rattle.widths.specs.Checks.{requestCheck}
 use Rattle.widths.specs.Moved.{shiftWidth}
 use Rattle.widths.proofs.WidthLaws.{shift-small}
@@ -44,29 +45,39 @@ passed c =
 street-is : (c : tie.After-s) → survey c .street ≡ streetOf (lists (entry c))
 street-is c = passed-street (lists (entry c)) (length (lent (entry c))) (survey c) (c .before .before .before .new .ensures) (passed c)
 
-street-sound : (c : tie.After-s) → Sound (survey c .street)
+street-sound : (c : tie.After-s) → Sound (timedStreet (survey c .street))
 street-sound c = passed-sound (lists (entry c)) (length (lent (entry c))) (survey c .street) (street-is c) (passed c)
 
 room : (c : tie.After-s) → survey c .street .road .signals ≤ length (lent (entry c))
 room c = passed-room (lists (entry c)) (length (lent (entry c))) (survey c .street) (street-is c) (passed c)
 
--- after the search, all that a plan is made from
-ready : (c : tie.After-reference) → Ready (survey (c .before .before) .street) (c .before .reduced .result) (c .reference .result .signal) (c .reference .result .raised)
+-- after the search: the street that it was made on, each signal's place on the cycle, and all that a plan is made from
+abbrev on : tie.After-reference → tie.After-s
+on c = c .before .before .before .before .before .before .before .before .before .before .before .before
+
+abbrev places : tie.After-reference → List ℕ
+places c = c .before .before .before .reduce .last .1 .1 .1 .1 .1 .0
+
+ready : (c : tie.After-reference) → Ready (timedStreet (survey (on c) .street)) (places c) (c .reference .result .signal) (c .reference .result .raised)
 ready c =
-    let r = c .reference .ensures in
+    let s = survey (on c) .street in
+    let r = c .reference .ensures .each (timedStreet s .outbound) (timedStreet s .inbound) (street-sound (on c)) (c .before .before .before .reduce .ensures) in
     record {
-      base = record { sound = street-sound (c .before .before); width = r .width; small = r .small };
-      places = c .before .reduced .ensures;
+      base = record { sound = street-sound (on c); width = r .width; small = r .small };
+      places = c .before .before .before .reduce .ensures;
       found = r .found;
     }
 
-reference-in : (c : tie.After-reference) → (c .reference .result .signal < survey (c .before .before) .street .road .signals) × (survey (c .before .before) .street .road .signals ≤ maxSignals)
+reference-in : (c : tie.After-reference) → (c .reference .result .signal < survey (on c) .street .road .signals) × (survey (on c) .street .road .signals ≤ maxSignals)
 reference-in c =
-    (ready-lt (survey (c .before .before) .street) (c .before .reduced .result) (c .reference .result .signal) (c .reference .result .raised) (ready c), street-sound (c .before .before) .road .few)
+    (ready-lt (timedStreet (survey (on c) .street)) (places c) (c .reference .result .signal) (c .reference .result .raised) (ready c), street-sound (on c) .few)
 
 -- a request that passed its check, and the width of its shift
+abbrev found : tie.After-enum-told2 → tie.After-reference
+found c = c .before .before .before
+
 abbrev out : tie.After-enum-told2 → tie.After-s
-out c = c .before .before .before .before .before
+out c = on (found c)
 
 asked-passed : (c : tie.After-enum-told2) → requestCheck (entry (out c) .args .request) (timedStreet (survey (out c) .street)) ≡ Passed
 asked-passed c = sym (c .before .before .check .ensures) ∙ c .enum-told2 .given .1
@@ -75,7 +86,7 @@ narrow : (c : tie.After-settle) → shiftWidth (c .settle .result) ≤ maxHalves
 narrow c =
     let s = out (c .before) in
     subst (λ x. shiftWidth x ≤ maxHalves) (sym (c .settle .ensures))
-    (shift-small (survey s .street) (entry s .args .request) (street-sound s) (asked-passed (c .before)))
+    (shift-small (timedStreet (survey s .street)) (entry s .args .request) (street-sound s) (asked-passed (c .before)))
 
 new-requires : tie.Need-new-requires
 new-requires c κs = search needs
@@ -93,11 +104,15 @@ returns c =
 enum-told : tie.Need-enum-told
 enum-told c = search needs
 
-reduced-requires : tie.Need-reduced-requires
-reduced-requires c κs = street-sound c
+reduce-requires : tie.Need-reduce-requires
+reduce-requires c κs = (street-sound (c .before .before .before .before .before .before .before .before), street-sound (c .before .before .before .before .before .before .before .before) .few)
 
 reference-requires : tie.Need-reference-requires
-reference-requires c κs = (street-sound (c .before), c .reduced .ensures)
+reference-requires c κs =
+    let s = c .before .before .before .before .before .before .before .before .before .before .before in
+    let ok = street-sound s in
+    let t = survey s .street in
+    (omega (arith, ok .shortest), ok .longest, ok .some, ok .few, turning (t .cycle) (t .road .signals) (t .reds) _ (timedStreet t .outbound) (timedStreet t .inbound) ok (c .before .before .reduce .ensures))
 
 check-requires : tie.Need-check-requires
 check-requires c κs = ready c .base
@@ -109,30 +124,30 @@ enum-told-2 : tie.Need-enum-told-2
 enum-told-2 c = search needs
 
 settle-requires : tie.Need-settle-requires
-settle-requires c κs = (ready (c .before .before .before) .base, asked-passed c)
+settle-requires c κs = (ready (found c) .base, asked-passed c)
 
 write-requires : tie.Need-write-requires
-write-requires c κs = (ready (c .before .before .before .before .before), narrow (c .before), room (c .before .before .before .before .before .before .before))
+write-requires c κs =
+    let settled = c .before .before .before .before .before in (ready (found (settled .before)), narrow settled, room (out (settled .before)))
 
 mul-f : tie.Need-mul-f
-mul-f c = omega (arith, reference-in (c .before .before .before .before .before .before .before .before))
+mul-f c = omega (arith, reference-in (c .before .before .before .before .before .before .before .before .before .before .before .before))
 
 slice-read-f : tie.Need-slice-read-f
 slice-read-f c =
-    let r = c .before .before .before .before .before .before .before .before .before in
-    omega (arith, reference-in r, room (r .before .before))
+    let told = c .before .before .before .before .before .before .before .before .before .before in omega (arith, reference-in (found told), room (out told))
 
 numbers-requires : tie.Need-numbers-requires
 numbers-requires c κs =
-    let r = c .before .before .before .before .before .before .before .before .before in
-    let found = r .reference .result in
-    let settled = c .before .before .before .before .before in
-    let s = r .before .before in
-    (ready r .base, ready r .found, narrow settled, own-written (survey s .street) (r .before .reduced .result) (found .signal) (found .raised) (settled .settle .result) (lent (entry s)) _ (ready r) (c .before .before .before .write .ensures))
+    let settled = c .before .before .before .before .before .before .before .before .before in
+    let r = found (settled .before) in
+    let at = r .reference .result in
+    let s = on r in
+    (ready r .base, ready r .found, narrow settled, own-written (timedStreet (survey s .street)) (places r) (at .signal) (at .raised) (settled .settle .result) (lent (entry s)) _ (ready r) (c .before .before .before .write .ensures))
 
 returns-2 : tie.Need-returns-2
 returns-2 c =
-    let s = c .before .before .before .before .before .before in
+    let s = on (c .before .before .before .before) in
     let c0 = entry s in
     asked-refused (c0 .args .request) (lists c0) (lent c0) (survey s .street) _ (passed s) (street-is s) (sym (c .before .before .before .check .ensures) ∙ c .before .asked .given .1)
 
@@ -141,15 +156,15 @@ same-length c = search needs
 
 returns-3 : tie.Need-returns-3
 returns-3 c =
-    let asked = c .before .before .before .before .before .before .before in
-    let s = out asked in
+    let told = c .before .before .before .before .before .before .before .before .before .before .before in
+    let s = out told in
     let c0 = entry s in
-    let shift = c .before .before .before .before .before .before .settle in
+    let shift = c .before .before .before .before .before .before .before .before .before .before .settle in
     let wrote = c .before .before .before .before .write in
-    requested-planned (c0 .args .request) (lists c0) (lent c0) (wrote .last .1 .1 .1 .1 .1 .0) (survey s .street) (shift .result) (c .numbers .result)
+    requested-planned (c0 .args .request) (lists c0) (lent c0) (wrote .last .1 .1 .1 .1 .1 .1 .1 .1 .1 .0) (survey s .street) (shift .result) (c .numbers .result)
     (passed s)
     (street-is s)
-    (asked-passed asked)
+    (asked-passed told)
     (shift .ensures)
     (wrote .ensures)
     (c .numbers .ensures)
@@ -162,7 +177,7 @@ plan-for-spec =
     enum-known-verdict
     returns
     enum-told
-    reduced-requires
+    reduce-requires
     reference-requires
     check-requires
     enum-known-asked

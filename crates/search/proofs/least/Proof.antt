@@ -1,18 +1,32 @@
--- `search::least` meets its contract. The loop's invariant: `low` is the least over the limits before `j`, of which there is one at least. Assumes nothing.
-use Prim.Native.Nat.{ℕ, _-_, _≤_}
-use mathlib.Core.Path.{ap₂, _≡_, sym, ap, _∙_}
+-- `search::least` meets its contract. The loop's invariant: `low` is the least over the limits before `j`, and over the first, which is looked at twice: from 0 on, the
+-- limits fill whole vectors. Assumes nothing.
+use Prim.Native.Nat.{ℕ, zero, suc, _+_, _-_, _≤_, max}
+use mathlib.Core.Bool.{Bool, true, false, cond}
+use mathlib.Core.Path.{ap₂, _≡_, refl, sym, ap, _∙_}
 use native.Mathlib.Omega.{arith}
-use lib.IntN.{pos}
+use lib.IntN.{ℤ, pos}
 use borrow.Author.Needs.{needs}
 use Rattle.circle.specs.Over.{leastBelow}
-use Rattle.circle.specs.Signed.{minℤ}
+use Rattle.circle.specs.Signed.{leℤ, minℤ}
 use Rattle.circle.proofs.Numbers.{pos-min, least-more}
 use Rattle.search.specs.Search.{wider}
 use Rattle.search.proofs.least.Statement.{statement}
 use Rattle.search.proofs.least.Tie as tie
 
+-- a number beside the least before it, of the first at least
+least-next : (j : ℕ) (f : ℕ → ℤ) → minℤ (leastBelow (max 1 j) f) (f j) ≡ leastBelow (j + 1) f
+unfolding leastBelow
+least-next zero f = go (leℤ (f 0) (f 0))
+  where
+    go : (t : Bool) → cond t (f 0) (f 0) ≡ f 0
+    go true = refl
+    go false = refl
+least-next (suc j) f =
+    let own : max 1 (suc j) ≡ suc j = omega arith in
+    ap (λ (k : ℕ). minℤ (leastBelow k f) (f (suc j))) own ∙ sym (least-more (suc j) f (omega arith))
+
 abbrev Inv-loop : tie.InvT-loop
-Inv-loop pairs n low₀ j₀ low j = (1 ≤ j) × (j ≤ n) × (pos low ≡ leastBelow j (λ q. pos (wider pairs q)))
+Inv-loop pairs n low₀ j₀ low j = (j ≤ n) × (pos low ≡ leastBelow (max 1 j) (λ q. pos (wider pairs q)))
 
 abbrev μ-loop : tie.MeasureT-loop
 μ-loop pairs n low₀ j₀ low j = n - j
@@ -34,7 +48,7 @@ larger-requires c κs = search needs
 
 loop-holds : tie.Need-loop-holds Inv-loop μ-loop
 unfolding leastBelow
-loop-holds c = (search needs, search needs, ap pos (c .larger .ensures))
+loop-holds c = (search needs, ap pos (c .larger .ensures))
 
 mul-larger : tie.Need-mul-larger Inv-loop μ-loop
 mul-larger c = search needs
@@ -69,16 +83,17 @@ loop-less c = search needs
 loop-again : tie.Need-loop-again Inv-loop μ-loop
 loop-again c =
     let loop = c .before .before .before .before .before .loop in
-    let pairs = c .before .before .before .before .before .before .before .before .before .args .pairs .now in
+    let f : ℕ → ℤ = λ q. pos (wider (c .before .before .before .before .before .before .before .before .before .args .pairs .now) q) in
     let here = c .before .larger2 in
-    let value = ap pos (c .smaller .ensures) ∙ pos-min (loop .low) (here .result) ∙ ap₂ minℤ (loop .inv .2) (ap pos (here .ensures)) in
-    (omega arith, omega arith, value ∙ sym (least-more (loop .j) (λ q. pos (wider pairs q)) (loop .inv .0)))
+    let value = ap pos (c .smaller .ensures) ∙ pos-min (loop .low) (here .result) ∙ ap₂ minℤ (loop .inv .1) (ap pos (here .ensures)) in
+    let next : loop .j + 1 ≡ max 1 (loop .j + 1) = omega arith in
+    (omega arith, value ∙ least-next (loop .j) f ∙ ap (λ (k : ℕ). leastBelow k f) next)
 
 returns : tie.Need-returns Inv-loop μ-loop
 returns c =
     let c0 = c .before .before .before .before .before in
-    let all : c .before .loop .j ≡ c0 .args .n = omega arith in
-    c .before .loop .inv .2 ∙ ap (λ (k : ℕ). leastBelow k (λ q. pos (wider (c0 .args .pairs .now) q))) all
+    let all : max 1 (c .before .loop .j) ≡ c0 .args .n = omega arith in
+    c .before .loop .inv .1 ∙ ap (λ (k : ℕ). leastBelow k (λ q. pos (wider (c0 .args .pairs .now) q))) all
 
 pub least-spec : {M : Type 1} → statement M
 least-spec =

@@ -1,34 +1,43 @@
 -- `search::reference` meets its contract. The first loop's invariant: the rows before `i` are filled. The second's: `signal` leads among the candidates before `k`, the
 -- first of those with the greatest b(i), which `raised` is. Assumes nothing.
 use Prim.Native.Nat.{ℕ, _+_, _-_, _≤_, _<_}
-use mathlib.Core.Path.{subst₂, _≡_, refl, sym, ap, _∙_}
+use mathlib.Core.Path.{subst, subst₂, _≡_, refl, sym, ap, _∙_}
 use mathlib.Core.Logic.{⊎-elim}
-use mathlib.Core.List.{[]}
+use mathlib.Core.List.{List, []}
 use native.Mathlib.Omega.{arith}
 use lib.ListN.{length-set, length, getD, replicate, getD-replicate}
 use borrow.Author.Count.{below-none}
 use borrow.Author.Needs.{needs}
 use Rattle.circle.proofs.Formulas.{b⁺}
 use Rattle.road.specs.Limits.{maxSignals}
-use Rattle.street.specs.Streets.{timedStreet}
-use Rattle.search.proofs.Leading.{settled, Leading, leads-first, leads-new, leads-still, row-set, fit-sound, turning, candidate-is}
-use Rattle.search.specs.Search.{Row}
+use Rattle.street.specs.Streets.{timedWith, Sound}
+use Rattle.search.proofs.Leading.{settled, Leading, leads-first, leads-new, leads-still, row-set, fit-sound, candidate-is}
+use Rattle.search.specs.Search.{Row, Reduced, Turning, Finds}
 use Rattle.search.proofs.reference.Statement.{statement}
 use Rattle.search.proofs.reference.Tie as tie
 
+-- who leads after k candidates, whatever the times are
+abbrev Leads : ℕ → ℕ → List ℕ → List ℕ → ℕ → ℕ → ℕ → Type 0
+Leads cycle n reds x k signal raised =
+    (out back : ℕ → ℕ) → Sound (timedWith cycle n reds out back) → Reduced (timedWith cycle n reds out back) x →
+    Leading (b⁺ (timedWith cycle n reds out back)) k signal raised
+
 abbrev Inv-loop : tie.InvT-loop
-Inv-loop s x n cycle reds widths₀ i₀ widths i =
-    (i ≤ s .road .signals) × (length widths ≡ maxSignals) × ((q : ℕ) → q < maxSignals → length (getD widths q []) ≡ maxSignals)
-    × ((q : ℕ) → q < i → Row (s .cycle) (s .road .signals) (s .reds) x q (getD widths q []))
+Inv-loop cycle n reds x count widths₀ i₀ widths i =
+    (i ≤ count) × (length widths ≡ maxSignals) × ((q : ℕ) → q < maxSignals → length (getD widths q []) ≡ maxSignals)
+    × ((q : ℕ) → q < i → Row cycle count reds x q (getD widths q []))
 
 abbrev μ-loop : tie.MeasureT-loop
-μ-loop s x n cycle reds widths₀ i₀ widths i = s .road .signals - i
+μ-loop cycle n reds x count widths₀ i₀ widths i = count - i
 
 abbrev Inv-loop2 : tie.InvT-loop2
-Inv-loop2 s n cycle widths i signal₀ raised₀ k₀ signal raised k = (1 ≤ k) × (k ≤ s .road .signals) × Leading (b⁺ (timedStreet s)) k signal raised
+Inv-loop2 cycle n reds x count widths i signal₀ raised₀ k₀ signal raised k = (1 ≤ k) × (k ≤ count) × Leads cycle count reds x k signal raised
 
 abbrev μ-loop2 : tie.MeasureT-loop2
-μ-loop2 s n cycle widths i signal₀ raised₀ k₀ signal raised k = s .road .signals - k
+μ-loop2 cycle n reds x count widths i signal₀ raised₀ k₀ signal raised k = count - k
+
+bounded-requires : tie.Need-bounded-requires Inv-loop μ-loop Inv-loop2 μ-loop2
+bounded-requires c κs = search needs
 
 loop-holds : tie.Need-loop-holds Inv-loop μ-loop Inv-loop2 μ-loop2
 loop-holds c = (search needs, refl, λ q l. ap length (getD-replicate maxSignals q (replicate maxSignals (replicate 2 0)) [] l), below-none _)
@@ -41,11 +50,10 @@ index-1-fill c = search needs
 
 fill-requires : tie.Need-fill-requires Inv-loop μ-loop Inv-loop2 μ-loop2
 fill-requires c κs =
-    let c0 = c .before .before .before .before .before .before in
-    let loop = c .before .before .before .before .loop in
-    let ok = c0 .pre .0 in
-    let in-row : loop .i < maxSignals = omega (arith, ok .road .few) in
-    (omega (arith, ok .shortest), ok .longest, ok .road .few, omega arith, turning (c0 .args .s) (c0 .args .t2) ok (c0 .pre .1), omega (arith, ok .road .few, loop .inv .2 (loop .i) in-row))
+    let c0 = c .before .before .before .before in
+    let loop = c .before .before .loop in
+    let in-row : loop .i < maxSignals = omega arith in
+    (c0 .pre .0, c0 .pre .1, omega arith, omega arith, subst (λ (k : ℕ). Turning (c0 .args .cycle) k (c0 .args .reds .now) (c0 .args .x .now)) (sym (c .before .before .before .bounded .ensures)) (c0 .pre .4), omega (arith, loop .inv .2 (loop .i) in-row))
 
 add-i : tie.Need-add-i Inv-loop μ-loop Inv-loop2 μ-loop2
 add-i c = search needs
@@ -55,18 +63,19 @@ loop-less c = search needs
 
 loop-again : tie.Need-loop-again Inv-loop μ-loop Inv-loop2 μ-loop2
 loop-again c =
-    let c0 = c .before .before .before .before .before .before .before in
-    let loop = c .before .before .before .before .before .loop in
-    let s = c0 .args .s in
+    let c0 = c .before .before .before .before .before in
+    let loop = c .before .before .before .loop in
+    let a = c0 .args in
+    let count = c .before .before .before .before .bounded .result in
     let i = loop .i in
-    let in-table : i < length (loop .widths) = omega (arith, loop .inv .1, c0 .pre .0 .road .few) in
-    let in-row : i < maxSignals = omega (arith, c0 .pre .0 .road .few) in (
+    let in-table : i < length (loop .widths) = omega (arith, loop .inv .1) in
+    let in-row : i < maxSignals = omega arith in (
       omega arith,
       simp length-set (loop .inv .1),
       λ q l.
           row-set (λ k row. length row ≡ maxSignals) (loop .widths) i _ q in-table (c .fill .ensures .1 ∙ loop .inv .2 i in-row) (λ n. loop .inv .2 q l),
       λ q l.
-          row-set (Row (s .cycle) (s .road .signals) (s .reds) (c0 .args .t2)) (loop .widths) i _ q in-table (c .fill .ensures .0) (λ n. loop .inv .3 q (omega (arith, n))),
+          row-set (Row (a .cycle) count (a .reds .now) (a .x .now)) (loop .widths) i _ q in-table (c .fill .ensures .0) (λ n. loop .inv .3 q (omega (arith, n))),
     )
 
 index-1-least : tie.Need-index-1-least Inv-loop μ-loop Inv-loop2 μ-loop2
@@ -78,11 +87,9 @@ least-requires c κs = search needs
 loop2-holds : tie.Need-loop2-holds Inv-loop μ-loop Inv-loop2 μ-loop2
 loop2-holds c =
     let c0 = c .before .before .before .before .before in
+    let a = c0 .args in
     let rows = c .before .before .before .loop in
-    let ok = c0 .pre .0 in
-    let s = c0 .args .s in
-    let first : 0 < s .road .signals = omega (arith, ok .road .some) in
-    (search needs, ok .road .some, leads-first _ _ (candidate-is s (c0 .args .t2) 0 (getD (rows .widths) 0 []) (c .least .result) ok (c0 .pre .1) first (rows .inv .3 0 (omega arith)) (c .least .ensures)))
+    (search needs, search needs, λ out back ok places. leads-first _ _ (candidate-is (a .cycle) _ (a .reds .now) (a .x .now) out back 0 (getD (rows .widths) 0 []) (c .least .result) ok places (omega arith) (rows .inv .3 0 (omega arith)) (c .least .ensures)))
 
 mul-least : tie.Need-mul-least Inv-loop μ-loop Inv-loop2 μ-loop2
 mul-least c = search needs
@@ -101,33 +108,41 @@ loop2-less c = search needs
 
 loop2-again : tie.Need-loop2-again Inv-loop μ-loop Inv-loop2 μ-loop2
 loop2-again c =
-    let c0 = c .before .before .before .before .before .before .before .before .before .before .before in
-    let rows = c .before .before .before .before .before .before .before .before .before .loop in
-    let loop = c .before .before .before .before .before .loop2 in
-    let s = c0 .args .s in
-    let g = b⁺ (timedStreet s) in
+    let c0 = c .before .before .before .before .before .before .before .before .before .before in
+    let a = c0 .args in
+    let count = c .before .before .before .before .before .before .before .before .before .bounded .result in
+    let rows = c .before .before .before .before .before .before .before .before .loop in
+    let loop = c .before .before .before .before .loop2 in
     let k = loop .k in
-    let least = c .before .least2 in
-    let here =
-    candidate-is s (c0 .args .t2) k (getD (rows .widths) k []) (least .result) (c0 .pre .0) (c0 .pre .1) (omega arith) (rows .inv .3 k (omega arith)) (least .ensures) in (
+    let least = c .before .least2 in (
       omega arith,
       omega arith,
-      ⊎-elim
-          (λ w.
-          subst₂ (Leading g (k + 1)) (sym (w .1)) (sym (w .2))
-          (leads-new g k (loop .signal) (loop .raised) (least .result) (loop .inv .2) (w .0 .taken) here))
-          (λ w.
-          subst₂ (Leading g (k + 1)) (sym (w .1)) (sym (w .2))
-          (leads-still g k (loop .signal) (loop .raised) (least .result) (loop .inv .2) (w .0 .left) here))
-          (c .if2 .came),
+      λ out back ok places. (
+          let g = b⁺ (timedWith (a .cycle) count (a .reds .now) out back) in
+          let lead = loop .inv .2 out back ok places in
+          let here =
+          candidate-is (a .cycle) count (a .reds .now) (a .x .now) out back k (getD (rows .widths) k []) (least .result) ok places (omega arith) (rows .inv .3 k (omega arith)) (least .ensures) in
+          ⊎-elim
+          (λ w. subst₂ (Leading g (k + 1)) (sym (w .1)) (sym (w .2)) (leads-new g k (loop .signal) (loop .raised) (least .result) lead (w .0 .taken) here))
+          (λ w. subst₂ (Leading g (k + 1)) (sym (w .1)) (sym (w .2)) (leads-still g k (loop .signal) (loop .raised) (least .result) lead (w .0 .left) here))
+          (c .if1 .came)
+          ),
     )
 
 returns : tie.Need-returns Inv-loop μ-loop Inv-loop2 μ-loop2
 returns c =
-    let c0 = c .before .before .before .before .before .before .before .before in
-    let loop = c .before .before .loop2 in
-    let all : loop .k ≡ c0 .args .s .road .signals = omega arith in
-    settled (timedStreet (c0 .args .s)) (fit-sound (c0 .args .s) (c0 .pre .0)) (loop .k) (loop .signal) (loop .raised) all (loop .inv .2)
+    let c0 = c .before .before .before .before .before .before .before in
+    let a = c0 .args in
+    let bounded = c .before .before .before .before .before .before .bounded in
+    let loop = c .before .loop2 in
+    let all : loop .k ≡ bounded .result = omega arith in
+    subst (λ (k : ℕ). Finds (a .cycle) k (a .reds .now) (a .x .now) (record { signal = loop .signal; raised = loop .raised })) (bounded .ensures)
+    (record {
+      each =
+          λ out back ok places.
+          let s = timedWith (a .cycle) (bounded .result) (a .reds .now) out back in
+          settled s (fit-sound s ok) (loop .k) (loop .signal) (loop .raised) all (loop .inv .2 out back ok places);
+    })
 
 pub reference-spec : {M : Type 1} → statement M
 reference-spec =
@@ -137,6 +152,7 @@ reference-spec =
     μ-loop
     Inv-loop2
     μ-loop2
+    bounded-requires
     loop-holds
     mul-fill
     index-1-fill

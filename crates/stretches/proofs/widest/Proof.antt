@@ -1,21 +1,24 @@
 -- `stretches::widest` meets its contract. The loop's invariant: `best` is the best of the candidates before i. A turn holds the candidate at i against it, and the best of
 -- all of them is the band. The measure is the number of signals left. Assumes nothing.
 use Prim.Native.Nat.{ℕ, _-_, _≤_}
-use mathlib.Core.Path.{subst, _≡_}
+use mathlib.Core.Path.{subst, _≡_, sym}
 use native.Mathlib.Omega.{arith}
 use lib.ListN.{getD}
 use borrow.Author.Needs.{needs}
 use Rattle.circle.proofs.Stretches.{Best, best-none}
-use Rattle.stretches.specs.Stretches.{seenBy}
+use Rattle.stretches.specs.Stretches.{Fitting, seenBy, longestFrom}
 use Rattle.stretches.proofs.SearchLaws.{more-seen, best-seen}
 use Rattle.stretches.proofs.widest.Statement.{statement}
 use Rattle.stretches.proofs.widest.Tie as tie
 
 abbrev Inv-loop : tie.InvT-loop
-Inv-loop h n reds ends best₀ i₀ best i = (i ≤ n) × Best (seenBy h n (λ j. getD reds j 0) ends) i (best .width) (best .start)
+Inv-loop h n reds ends count best₀ i₀ best i = (i ≤ n) × Best (seenBy h n (λ j. getD reds j 0) ends) i (best .width) (best .start)
 
 abbrev μ-loop : tie.MeasureT-loop
-μ-loop h n reds ends best₀ i₀ best i = n - i
+μ-loop h n reds ends count best₀ i₀ best i = n - i
+
+bounded-requires : tie.Need-bounded-requires Inv-loop μ-loop
+bounded-requires c κs = search needs
 
 loop-holds : tie.Need-loop-holds Inv-loop μ-loop
 loop-holds c = (search needs, best-none _)
@@ -28,8 +31,10 @@ element-copy-out-start c = search needs
 
 longest-requires : tie.Need-longest-requires Inv-loop μ-loop
 longest-requires c κs =
-    let c0 = c .before .before .before in
-    (c0 .pre .0, c0 .pre .2, c0 .pre .3, c0 .pre .3 .each (c .before .before .loop .i) (omega arith))
+    let c0 = c .before .before .before .before in
+    let same = c .before .before .before .bounded .ensures in
+    let fits = subst (λ (k : ℕ). Fitting (c0 .args .h) k (λ j. getD (c0 .args .reds .now) j 0) (c0 .args .ends .now)) (sym same) (c0 .pre .3) in
+    (c0 .pre .0, omega arith, fits, c0 .pre .3 .each (c .before .before .loop .i) (omega arith))
 
 wider-requires : tie.Need-wider-requires Inv-loop μ-loop
 wider-requires c κs = search needs
@@ -42,19 +47,24 @@ loop-less c = search needs
 
 loop-again : tie.Need-loop-again Inv-loop μ-loop
 loop-again c =
-    let c0 = c .before .before .before .before .before in
-    let so-far = c .before .before .before .before .loop in (
+    let c0 = c .before .before .before .before .before .before in
+    let red : ℕ → ℕ = λ j. getD (c0 .args .reds .now) j 0 in
+    let so-far = c .before .before .before .before .loop in
+    let long =
+    subst (λ (k : ℕ). c .before .longest .result ≡ longestFrom (seenBy (c0 .args .h) k red (c0 .args .ends .now)) (getD (c0 .args .ends .now) (so-far .i) 0))
+    (c .before .before .before .before .before .bounded .ensures)
+    (c .before .longest .ensures) in (
       omega arith,
-      more-seen (c0 .args .h) (c0 .args .n) (λ j. getD (c0 .args .reds .now) j 0) (c0 .args .ends .now) (c0 .pre .3) (so-far .i) (c .before .longest .result) (so-far .best) (c .wider .result)
+      more-seen (c0 .args .h) (c0 .args .n) red (c0 .args .ends .now) (c0 .pre .3) (so-far .i) (c .before .longest .result) (so-far .best) (c .wider .result)
           (omega arith)
           (so-far .inv .1)
-          (c .before .longest .ensures)
+          long
           (c .wider .ensures),
     )
 
 returns : tie.Need-returns Inv-loop μ-loop
 returns c =
-    let c0 = c .before .before in
+    let c0 = c .before .before .before in
     let red : ℕ → ℕ = λ j. getD (c0 .args .reds .now) j 0 in
     let ends = c0 .args .ends .now in
     let best = c .before .loop .best in
@@ -68,6 +78,7 @@ widest-spec =
     (tie.spec
     Inv-loop
     μ-loop
+    bounded-requires
     loop-holds
     mul-start
     element-copy-out-start

@@ -16,7 +16,7 @@ abbrev street-of : tie.After-widest → Timed
 street-of c = timedStreet (c .before .args .s)
 
 fit : (c : tie.After-widest) → Fit (street-of c)
-fit c = fit-sound (c .before .args .s) (c .before .pre .sound)
+fit c = fit-sound (street-of c) (c .before .pre .sound)
 
 most-is : (c : tie.After-widest) → c .widest .result ≡ green (street-of c)
 most-is c = green-is (street-of c) (fit c) (c .widest .result) (c .widest .ensures)
@@ -59,14 +59,14 @@ returns-3 c =
     let c1 = c .before .before .before .before .before in
     let a = c1 .before .args in
     c .refused3 .ensures
-    ∙ check-is (street-of c1) (a .width) false (outside (street-of c1) (fit c1) (a .width) (λ in-range. omega (arith, in-range .reaches, raised-is (a .s) (a .raised) (c1 .before .pre))))
+    ∙ check-is (street-of c1) (a .width) false (outside (street-of c1) (fit c1) (a .width) (λ in-range. omega (arith, in-range .reaches, raised-is (street-of c1) (a .raised) (c1 .before .pre))))
 
 returns-4 : tie.Need-returns-4
 returns-4 c =
     let c1 = c .before .before .before .before in
     let a = c1 .before .args in
     check-is (street-of c1) (a .width) true
-    (within (street-of c1) (fit c1) (a .width) (omega arith) (omega (arith, raised-is (a .s) (a .raised) (c1 .before .pre))) (omega (arith, most-is c1)))
+    (within (street-of c1) (fit c1) (a .width) (omega arith) (omega (arith, raised-is (street-of c1) (a .raised) (c1 .before .pre))) (omega (arith, most-is c1)))
 
 pub in-range-spec : {M : Type 1} → statement M
 in-range-spec =

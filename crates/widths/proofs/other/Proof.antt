@@ -23,9 +23,9 @@ surplus-requires c κs = search needs
 returns : tie.Need-returns
 returns c =
     let c0 = c .before .before in
-    let s = c0 .args .s in
+    let s = timedStreet (c0 .args .s) in
     let fit = fit-sound s (c0 .pre .0 .sound) in
-    omega (arith, c .surplus .ensures, other-width (timedStreet s) fit (c0 .args .width), raised-is s (c0 .args .raised) (c0 .pre .0))
+    omega (arith, c .surplus .ensures, other-width s fit (c0 .args .width), raised-is s (c0 .args .raised) (c0 .pre .0))
 
 pub other-spec : {M : Type 1} → statement M
 other-spec = tie.close (tie.spec mul-surplus mul-surplus-2 add-surplus surplus-requires returns)

@@ -45,8 +45,8 @@ returns : tie.Need-returns
 returns c =
     let c0 = c .before .before .before .before in
     let s = timedStreet (c0 .args .s) in
-    let fit = fit-sound (c0 .args .s) (c0 .pre .0 .sound) in
-    let e : c .surplus .result ≡ equalWidth s = omega (arith, c .surplus .ensures, equal-width s fit, raised-is (c0 .args .s) (c0 .args .raised) (c0 .pre .0)) in
+    let fit = fit-sound s (c0 .pre .0 .sound) in
+    let e : c .surplus .result ≡ equalWidth s = omega (arith, c .surplus .ensures, equal-width s fit, raised-is s (c0 .args .raised) (c0 .pre .0)) in
     ap (λ (w : ℕ). widths w w) e ∙ sym (ap (λ x. widthsOf x s) (c .before .before .enum-told .given .1))
 
 returns-2 : tie.Need-returns-2

@@ -16,13 +16,13 @@ abbrev street-of : tie.After-widest → Timed
 street-of c = timedStreet (c .before .before .args .s)
 
 fit : (c : tie.After-widest) → Fit (street-of c)
-fit c = fit-sound (c .before .before .args .s) (c .before .before .pre .0 .sound)
+fit c = fit-sound (street-of c) (c .before .before .pre .0 .sound)
 
 most-is : (c : tie.After-widest) → c .widest .result ≡ green (street-of c)
 most-is c = green-is (street-of c) (fit c) (c .widest .result) (c .widest .ensures)
 
 B-is : (c : tie.After-widest) → c .before .before .args .raised ≡ B⁺ (street-of c)
-B-is c = raised-is (c .before .before .args .s) (c .before .before .args .raised) (c .before .before .pre .0)
+B-is c = raised-is (street-of c) (c .before .before .args .raised) (c .before .before .pre .0)
 
 mul-h : tie.Need-mul-h
 mul-h c = search needs

@@ -29,22 +29,22 @@ element-copy-out-low : tie.Need-element-copy-out-low Inv-loop μ-loop
 element-copy-out-low c = search needs
 
 mul-low : tie.Need-mul-low Inv-loop μ-loop
-mul-low c = omega (arith, c .before .pre .goes 0 (c .before .pre .road .some), c .before .pre .longest)
+mul-low c = omega (arith, c .before .pre .goes 0 (c .before .pre .some), c .before .pre .longest)
 
 sub-low : tie.Need-sub-low Inv-loop μ-loop
-sub-low c = omega (arith, c .before .pre .goes 0 (c .before .pre .road .some))
+sub-low c = omega (arith, c .before .pre .goes 0 (c .before .pre .some))
 
 loop-holds : tie.Need-loop-holds Inv-loop μ-loop
 unfolding leastBelow
 loop-holds c =
     let s = c .before .args .t1 in
-    (omega arith, c .before .pre .road .some, pos-less (2 * s .cycle) (2 * getD (s .reds) 0 0) (omega (arith, c .before .pre .goes 0 (c .before .pre .road .some))))
+    (omega arith, c .before .pre .some, pos-less (2 * s .cycle) (2 * getD (s .reds) 0 0) (omega (arith, c .before .pre .goes 0 (c .before .pre .some))))
 
 mul-smaller : tie.Need-mul-smaller Inv-loop μ-loop
-mul-smaller c = omega (arith, c .before .before .before .pre .road .few)
+mul-smaller c = omega (arith, c .before .before .before .pre .few)
 
 element-copy-out-smaller : tie.Need-element-copy-out-smaller Inv-loop μ-loop
-element-copy-out-smaller c = omega (arith, c .before .before .before .pre .road .few)
+element-copy-out-smaller c = omega (arith, c .before .before .before .pre .few)
 
 mul-smaller-2 : tie.Need-mul-smaller-2 Inv-loop μ-loop
 mul-smaller-2 c =
@@ -60,7 +60,7 @@ smaller-requires : tie.Need-smaller-requires Inv-loop μ-loop
 smaller-requires c κs = search needs
 
 add-j : tie.Need-add-j Inv-loop μ-loop
-add-j c = let c0 = c .before .before .before .before .before in omega (arith, c0 .pre .road .few)
+add-j c = let c0 = c .before .before .before .before .before in omega (arith, c0 .pre .few)
 
 loop-less : tie.Need-loop-less Inv-loop μ-loop
 loop-less c = omega arith

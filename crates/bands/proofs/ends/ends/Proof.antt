@@ -1,27 +1,33 @@
--- `bands::ends::ends` meets its contract. The loop's invariant: the array's entries before j are the red ends, and the others are still 0. A turn adds the one at j, whose
+-- `bands::ends::ends` meets its contract. The loop's invariant: the array's entries before j are the red ends, and the others are as they were. A turn adds the one at j, whose
 -- remainder and lag are the callees'. The measure is the number of signals left. Assumes nothing.
 use Prim.Native.Nat.{ℕ, _+_, _-_, _≤_}
 use mathlib.Core.Path.{_≡_, refl, ap, _∙_}
 use mathlib.Core.List.{_++_}
 use native.Mathlib.Omega.{arith}
 use lib.IntN.{pos, _-ℤ_}
-use lib.ListN.{replicate, drop, getD}
+use lib.ListN.{length, length-set, drop, getD}
 use borrow.Author.Needs.{needs}
 use Rattle.circle.specs.Man.{man}
-use Rattle.circle.specs.Method.{halves}
+use Rattle.circle.specs.Method.{Timed, halves}
 use Rattle.circle.specs.Over.{listBelow}
-use Rattle.circle.proofs.Numbers.{fill-store}
-use Rattle.road.specs.Limits.{maxSignals}
-use Rattle.street.specs.Streets.{timedStreet}
+use Rattle.circle.proofs.Numbers.{fill-store, getD-listBelow}
+use Rattle.street.specs.Streets.{timedBy}
 use Rattle.bands.specs.Search.{endOf}
 use Rattle.bands.proofs.ends.ends.Statement.{statement}
 use Rattle.bands.proofs.ends.ends.Tie as tie
 
 abbrev Inv-loop : tie.InvT-loop
-Inv-loop offsets direction s road n h last all₀ j₀ all j = (j ≤ s .road .signals) × (all ≡ listBelow j (endOf direction (timedStreet s) offsets) ++ drop j (replicate maxSignals 0))
+Inv-loop cycle n reds outbound inbound offsets direction all₀ count h last j₀ all j =
+    (j ≤ n) × (length all ≡ length all₀) × (all ≡ listBelow j (endOf direction (timedBy cycle n reds outbound inbound) offsets) ++ drop j all₀)
 
 abbrev μ-loop : tie.MeasureT-loop
-μ-loop offsets direction s road n h last all₀ j₀ all j = s .road .signals - j
+μ-loop cycle n reds outbound inbound offsets direction all₀ count h last j₀ all j = n - j
+
+abbrev street-of : tie.Start Inv-loop μ-loop → Timed
+street-of c = timedBy (c .args .cycle) (c .args .n) (c .args .reds .now) (c .args .outbound .now) (c .args .inbound .now)
+
+bounded-requires : tie.Need-bounded-requires Inv-loop μ-loop
+bounded-requires c κs = search needs
 
 mul-h : tie.Need-mul-h Inv-loop μ-loop
 mul-h c = search needs
@@ -37,7 +43,7 @@ element-copy-out-last c = search needs
 
 loop-holds : tie.Need-loop-holds Inv-loop μ-loop
 unfolding listBelow
-loop-holds c = (search needs, refl)
+loop-holds c = (search needs, refl, refl)
 
 mul-lag : tie.Need-mul-lag Inv-loop μ-loop
 mul-lag c = search needs
@@ -54,8 +60,9 @@ element-copy-out-lag-2 c = search needs
 lag-requires : tie.Need-lag-requires Inv-loop μ-loop
 lag-requires c κs =
     let c0 = c .before .before .before .before .before .before .before in
+    let ok = c0 .pre .0 in
     let j = c .before .before .before .loop .j in
-    (c0 .pre .0 .road .out j (omega arith), c0 .pre .0 .road .onward j (omega arith), c0 .pre .0 .road .back (c0 .args .t1 .road .signals - 1) (omega (arith, c0 .pre .0 .road .some)))
+    (ok .out j (omega arith), ok .onward j (omega arith), ok .back (c0 .args .n - 1) (omega (arith, ok .some)))
 
 mul-remainder : tie.Need-mul-remainder Inv-loop μ-loop
 mul-remainder c = search needs
@@ -84,8 +91,8 @@ remainder-requires c κs =
 mul-all : tie.Need-mul-all Inv-loop μ-loop
 mul-all c = search needs
 
-array-write-all : tie.Need-array-write-all Inv-loop μ-loop
-array-write-all c = search needs
+element-write-all : tie.Need-element-write-all Inv-loop μ-loop
+element-write-all c = search needs
 
 add-j : tie.Need-add-j Inv-loop μ-loop
 add-j c = search needs
@@ -96,23 +103,23 @@ loop-less c = search needs
 loop-again : tie.Need-loop-again Inv-loop μ-loop
 loop-again c =
     let c0 = c .before .before .before .before .before .before .before .before .before .before .before in
-    let s = timedStreet (c0 .args .t1) in
+    let s = street-of c0 in
     let offsets = c0 .args .offsets .now in
-    let j = c .before .before .before .before .before .before .before .loop .j in
-    let value = c .remainder .ensures ∙ ap (λ (k : ℕ). man (halves s) (pos (getD offsets j 0 + s .red j) -ℤ pos k)) (c .before .before .before .lag .ensures) in (
-      omega arith,
-      fill-store (replicate maxSignals 0) (c .before .before .before .before .before .before .before .loop .all) (endOf (c0 .args .direction) s offsets) j (c .remainder .result) 0
-          (omega (arith, c0 .pre .0 .road .few))
-          (c .before .before .before .before .before .before .before .loop .inv .1)
-          value,
-    )
+    let loop = c .before .before .before .before .before .before .before .loop in
+    let j = loop .j in
+    let value = c .remainder .ensures ∙ ap (λ (k : ℕ). man (halves s) (pos (getD offsets j 0 + s .red j) -ℤ pos k)) (c .before .before .before .lag .ensures) in
+    (omega arith, simp length-set (loop .inv .1), fill-store (c0 .args .all .now) (loop .all) (endOf (c0 .args .direction) s offsets) j (c .remainder .result) 0 (omega (arith, c0 .pre .2)) (loop .inv .2) value)
 
 returns : tie.Need-returns Inv-loop μ-loop
 returns c =
     let c0 = c .before .before .before .before .before in
-    let all : c .before .loop .j ≡ c0 .args .t1 .road .signals = omega arith in
-    c .before .loop .inv .1
-    ∙ ap (λ (k : ℕ). listBelow k (endOf (c0 .args .direction) (timedStreet (c0 .args .t1)) (c0 .args .offsets .now)) ++ drop k (replicate maxSignals 0)) all
+    let loop = c .before .loop in
+    record {
+      each =
+          λ j l.
+          ap (λ xs. getD xs j 0) (loop .inv .2)
+          ∙ getD-listBelow (loop .j) (endOf (c0 .args .direction) (street-of c0) (c0 .args .offsets .now)) _ j 0 (omega arith);
+    }
 
 pub ends-spec : {M : Type 1} → statement M
 ends-spec =
@@ -120,6 +127,7 @@ ends-spec =
     (tie.spec
     Inv-loop
     μ-loop
+    bounded-requires
     mul-h
     sub-last
     mul-last
@@ -137,7 +145,7 @@ ends-spec =
     add-remainder
     remainder-requires
     mul-all
-    array-write-all
+    element-write-all
     add-j
     loop-less
     loop-again
