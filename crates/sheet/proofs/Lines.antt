@@ -10,16 +10,13 @@ use native.Mathlib.Numerals.{add-one}
 use lib.ListN.{length, take, drop, set, replicate, length-set, take-append-drop}
 use lib.Seq.{append-snoc, take-suc-set, drop-set-lt, length-take-le, drop-drop}
 use Rattle.road.specs.Limits.{maxSignals}
-use Rattle.street.specs.declared.Code.{Code}
 use Rattle.street.specs.declared.Code.the-variants.{Sheet}
 use Rattle.sheet.specs.declared.Number.{Number}
-use Rattle.sheet.specs.declared.Stand.{Stand}
-use Rattle.sheet.specs.declared.Stand.the-variants.{Fault}
-use Rattle.sheet.specs.declared.Columns.{Columns}
 use Rattle.sheet.specs.Numbers.{spaced, ended, number}
 use Rattle.sheet.specs.Sections.{Lines, lines, fault, above, pairs}
 use Rattle.sheet.specs.Reading.{padded}
-use Rattle.sheet.specs.Cursors.{found, inArrays, arrays, columns, columnsTo}
+use Rattle.sheet.specs.Filled.{Zeros}
+use Rattle.sheet.specs.Cursors.{found, inArrays}
 use Rattle.sheet.proofs.Otherwise.{numberTag, no-space, no-line-end}
 
 abbrev pub prepend : List ℕ → List ℕ → Lines → Lines
@@ -33,10 +30,6 @@ prepend-none (fault c) = refl
 pub prepend-above : (xs ys : List ℕ) (x y : ℕ) (l : Lines) → prepend xs ys (above x y l) ≡ prepend (xs ++ x ∷ []) (ys ++ y ∷ []) l
 prepend-above xs ys x y (lines as′ bs rest) = simp append-snoc
 prepend-above xs ys x y (fault c) = refl
-
--- columns that a fault stopped
-pub stopped : (s : List ℕ) (r : Columns) (code : Code) (l : Lines) → r .end ≡ Fault code → l ≡ fault code → columns s r ≡ inArrays l
-stopped s r code l e q = ap (λ (t : Stand). columnsTo s t (r .lines) (r .left) (r .right)) e ∙ sym (ap inArrays q)
 
 -- an array of a street's entries of which i are in use: 0 from there on
 pub record Filled (i : ℕ) (xs : List ℕ) : Type 0 where
@@ -70,10 +63,8 @@ filled-padded n xs h f =
 
 -- all the lines are in the arrays
 all-in : (n : ℕ) (left right rest : List ℕ) → n ≤ maxSignals → Filled n left → Filled n right →
-    arrays n left right rest ≡ inArrays (prepend (take n left) (take n right) (lines [] [] rest))
-all-in n left right rest h f g =
-    simp append-nil
-    (cc (length-take-le n left (omega (arith, f .size)), filled-padded n left h f, filled-padded n right h g))
+    lines left right rest ≡ inArrays (prepend (take n left) (take n right) (lines [] [] rest))
+all-in n left right rest h f g = simp append-nil (cc (filled-padded n left h f, filled-padded n right h g))
 
 -- the loop over the lines: i of them are in the arrays, and the rest is read from the cursor on
 pub record SoFar (s : List ℕ) (from count : ℕ) (left right : List ℕ) (at i : ℕ) : Type 0 where
@@ -82,13 +73,16 @@ pub record SoFar (s : List ℕ) (from count : ℕ) (left right : List ℕ) (at i
   pub lefts : Filled i left
   pub rights : Filled i right
 
-pub so-far-none : (s : List ℕ) (from count : ℕ) → SoFar s from count (replicate maxSignals 0) (replicate maxSignals 0) from 0
-so-far-none s from count =
+filled-none : {xs : List ℕ} → Zeros xs → Filled 0 xs
+filled-none z = record { size = ap length z; zeros = z }
+
+pub so-far-none : (s : List ℕ) (from count : ℕ) (left right : List ℕ) → Zeros left → Zeros right → SoFar s from count left right from 0
+so-far-none s from count left right l r =
     record {
       within = omega arith;
       joined = prepend-none _ ∙ ap (λ (k : ℕ). prepend [] [] (pairs k (drop from s))) (omega arith);
-      lefts = record { size = refl; zeros = refl };
-      rights = record { size = refl; zeros = refl };
+      lefts = filled-none l;
+      rights = filled-none r;
     }
 
 -- a turn of the loop: a line is left to read, and the arrays have room for it
@@ -140,7 +134,7 @@ module _ {s : List ℕ} {from count : ℕ} {left right : List ℕ} {at i : ℕ} 
 
 -- no line is left
 pub so-far-all : {s : List ℕ} {from count : ℕ} {left right : List ℕ} {at i : ℕ} → SoFar s from count left right at i → count ≤ maxSignals → count ≤ i →
-    arrays count left right (drop at s) ≡ inArrays (pairs count (drop from s))
+    lines left right (drop at s) ≡ inArrays (pairs count (drop from s))
 unfolding pairs
 so-far-all {s} {from} {count} {left} {right} {at} {i} v few h =
     let z : count - i ≡ 0 = omega arith in

@@ -11,16 +11,13 @@ use lib.ListN.{length, drop}
 use borrow.Author.Tests.{le-leb, lt-leb, leb-true, eq-eqb, ne-eqb}
 use Rattle.circle.proofs.Numbers.{cond-left, cond-right}
 use Rattle.street.specs.Checks.{within}
-use Rattle.street.specs.declared.Code.{Code}
 use Rattle.street.specs.declared.Code.the-variants.{Sheet, Count}
 use Rattle.sheet.specs.declared.Number.{Number}
-use Rattle.sheet.specs.declared.Stand.{Stand}
-use Rattle.sheet.specs.declared.Stand.the-variants.{At, Fault}
-use Rattle.sheet.specs.declared.Columns.{Columns}
+use Rattle.sheet.specs.declared.Stand.the-variants.{At, Stopped}
 use Rattle.sheet.specs.Numbers.{unreadable, ended, number}
 use Rattle.sheet.specs.Sections.{Lines, lines, fault, pairs, section, cycleSection}
 use Rattle.sheet.specs.Reading.{padded}
-use Rattle.sheet.specs.Cursors.{found, inArrays, arrays, faulty, columns, columnsTo}
+use Rattle.sheet.specs.Cursors.{found, inArrays, columns}
 use Rattle.sheet.proofs.Otherwise.{numberTag, no-line-end}
 use Rattle.sheet.proofs.Backwards.{past-line, past-test, past-pair, not-lines, FirstLine}
 
@@ -105,33 +102,36 @@ section-counted least most bytes xs ys rest e =
     let n = pairs-length (g .count) (g .after) xs ys rest (g .below) in
     record { low = omega (arith, n .0, g .low); high = omega (arith, n .0, g .high); even = n .1 ∙ sym (n .0) }
 
--- what columns whose cursor stands past their lines tell
-pub record Took (s : List ℕ) (c : Columns) (l : Lines) (at : ℕ) : Type 0 where
+-- what two arrays and the cursor past their lines tell of a section of n lines
+pub record Took (s left right : List ℕ) (l : Lines) (n at : ℕ) : Type 0 where
   pub lefts : List ℕ
   pub rights : List ℕ
   pub is : l ≡ lines lefts rights (drop at s)
-  pub count : c .lines ≡ length lefts
-  pub left : c .left ≡ padded lefts
-  pub right : c .right ≡ padded rights
+  pub count : length rights ≡ n
+  pub in-left : left ≡ padded lefts
+  pub in-right : right ≡ padded rights
 
-module _ (s : List ℕ) (c : Columns) where
-  at-end : (t : Stand) → c .end ≡ t → columns s c ≡ columnsTo s t (c .lines) (c .left) (c .right)
-  at-end t e = ap (λ (z : Stand). columnsTo s z (c .lines) (c .left) (c .right)) e
+-- the code's arrays, filled from the lines that a section's count opens
+module _ (s left right : List ℕ) {l : Lines} (n : ℕ) (bytes : List ℕ) (opens : l ≡ pairs n bytes) where
+  pub took : (at : ℕ) → columns s (At at) left right ≡ inArrays (pairs n bytes) → Took s left right l n at
+  took at e = by-lines (pairs n bytes) refl e
+    where
+      by-lines : (m : Lines) → pairs n bytes ≡ m → columns s (At at) left right ≡ inArrays m → Took s left right l n at
+      by-lines (lines xs ys rest) q e =
+          let r : rest ≡ drop at s = cc in
+          record {
+            lefts = xs;
+            rights = ys;
+            is = opens ∙ q ∙ ap (lines xs ys) r;
+            count = pairs-length n bytes xs ys rest q .1;
+            in-left = cc;
+            in-right = cc;
+          }
+      by-lines (fault code) q e = absurd (not-lines code left right (drop at s) (sym e))
 
-  pub took : (l : Lines) (at : ℕ) → columns s c ≡ inArrays l → c .end ≡ At at → Took s c l at
-  took (lines xs ys rest) at e q =
-      let k : arrays (c .lines) (c .left) (c .right) (drop at s) ≡ arrays (length xs) (padded xs) (padded ys) rest = sym (at-end (At at) q) ∙ e in
-      let r : rest ≡ drop at s = cc in
-      record { lefts = xs; rights = ys; is = ap (lines xs ys) r; count = cc; left = cc; right = cc }
-  took (fault code) at e q =
-      let k : arrays (c .lines) (c .left) (c .right) (drop at s) ≡ faulty code = sym (at-end (At at) q) ∙ e in
-      absurd (let z : _≡_ {A = ℕ} 0 1 = cc in omega arith)
-
-  pub took-fault : (l : Lines) (code : Code) → columns s c ≡ inArrays l → c .end ≡ Fault code → l ≡ fault code
-  took-fault (lines xs ys rest) code e q =
-      let k : faulty code ≡ arrays (length xs) (padded xs) (padded ys) rest = sym (at-end (Fault code) q) ∙ e in
-      absurd (let z : _≡_ {A = ℕ} 0 1 = cc in omega arith)
-  took-fault (fault other) code e q =
-      let k : faulty code ≡ faulty other = sym (at-end (Fault code) q) ∙ e in
-      let r : other ≡ code = cc in
-      ap fault r
+  pub took-none : columns s Stopped left right ≡ inArrays (pairs n bytes) → l ≡ fault Sheet
+  took-none e = opens ∙ by-lines (pairs n bytes) e
+    where
+      by-lines : (m : Lines) → columns s Stopped left right ≡ inArrays m → m ≡ fault Sheet
+      by-lines (lines xs ys rest) e = absurd (not-lines Sheet (padded xs) (padded ys) rest e)
+      by-lines (fault code) e = sym e

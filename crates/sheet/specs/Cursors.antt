@@ -1,18 +1,22 @@
 -- What the values that the reader's own functions hand on say of the bytes: a cursor stands for the bytes from it on. The contract of `read` cites none of this.
-use Prim.Native.Nat.{ℕ}
+use Prim.Native.Nat.{ℕ, _≤_}
 use mathlib.Core.List.{List}
-use lib.ListN.{length, drop}
-use Rattle.street.specs.declared.Code.{Code}
+use lib.ListN.{drop}
+use Rattle.street.specs.declared.Code.the-variants.{Sheet}
 use Rattle.street.specs.declared.Verdict.the-variants.{Passed}
 use Rattle.sheet.specs.declared.Number.{Number}
 use Rattle.sheet.specs.declared.Number.the-variants.{Spaced, Ended, Unreadable}
+use Rattle.sheet.specs.declared.Count.{Count}
+use Rattle.sheet.specs.declared.Count.the-variants.{Of, Wrong}
 use Rattle.sheet.specs.declared.Stand.{Stand}
-use Rattle.sheet.specs.declared.Stand.the-variants.{At, Fault}
-use Rattle.sheet.specs.declared.Columns.{Columns}
+use Rattle.sheet.specs.declared.Stand.the-variants.{At, Stopped}
+use Rattle.sheet.specs.declared.Outcome.{Outcome}
+use Rattle.sheet.specs.declared.Outcome.the-variants.{Numbers, Fault}
 use Rattle.sheet.specs.declared.Reading.{Reading}
 use Rattle.sheet.specs.Numbers.{Taken, spaced, ended, unreadable}
-use Rattle.sheet.specs.Sections.{Lines, lines, fault}
-use Rattle.sheet.specs.Reading.{padded}
+use Rattle.sheet.specs.Sections.{Lines, lines, fault, pairs}
+use Rattle.sheet.specs.Reading.{padded, refusing}
+use Rattle.sheet.specs.Filled.{assembled}
 
 -- a number and the bytes from its cursor on
 abbrev pub found : List ℕ → Number → Taken
@@ -20,36 +24,28 @@ found bytes (Spaced value at) = spaced value (drop at bytes)
 found bytes (Ended value at) = ended value (drop at bytes)
 found bytes Unreadable = unreadable
 
--- some lines as arrays hold them: how many, the two columns filled up with 0, and the bytes after them
-pub data Arrays : Type 0 where
-  arrays : ℕ → List ℕ → List ℕ → List ℕ → Arrays
-  faulty : Code → Arrays
+-- the section that a count opens: as many lines from its cursor on
+abbrev pub opened : List ℕ → Count → Lines
+opened bytes (Of n at) = pairs n (drop at bytes)
+opened bytes (Wrong code) = fault code
 
--- the lines of a section, as arrays hold them
-abbrev pub inArrays : Lines → Arrays
-inArrays (lines xs ys rest) = arrays (length xs) (padded xs) (padded ys) rest
-inArrays (fault code) = faulty code
+-- a count that is handed on is one that passed
+abbrev pub Allowed : ℕ → ℕ → Count → Type 0
+Allowed least most (Of n at) = (least ≤ n) × (n ≤ most)
+Allowed least most (Wrong code) = Unit
 
--- columns by where reading stands after them
-abbrev pub columnsTo : List ℕ → Stand → ℕ → List ℕ → List ℕ → Arrays
-columnsTo bytes (At at) n left right = arrays n left right (drop at bytes)
-columnsTo bytes (Fault code) n left right = faulty code
+-- two columns and the bytes from the cursor past them on
+abbrev pub columns : List ℕ → Stand → List ℕ → List ℕ → Lines
+columns bytes (At at) left right = lines left right (drop at bytes)
+columns bytes Stopped left right = fault Sheet
 
--- columns and the bytes from their cursor on
-abbrev pub columns : List ℕ → Columns → Arrays
-columns bytes c = columnsTo bytes (c .end) (c .lines) (c .left) (c .right)
+-- some lines as arrays hold them: the two columns filled up with 0
+abbrev pub inArrays : Lines → Lines
+inArrays (lines xs ys rest) = lines (padded xs) (padded ys) rest
+inArrays (fault code) = fault code
 
--- the numbers of a sheet from the columns of its signals and of its links
-abbrev pub fromColumns : ℕ → Columns → Columns → Reading
-fromColumns cycle s l =
-    record {
-      verdict = Passed;
-      sheet = record {
-        signals = s .lines;
-        cycle = cycle;
-        reds = s .right;
-        distances = s .left;
-        outbound = l .left;
-        inbound = l .right;
-      };
-    }
+-- the reading of what the sections came to; of the arrays that a fault leaves nothing is said
+abbrev pub answered : Outcome → List ℕ → List ℕ → List ℕ → List ℕ → Reading
+answered (Numbers n cycle) reds distances outbound inbound =
+    assembled (record { verdict = Passed; signals = n; cycle = cycle }) reds distances outbound inbound
+answered (Fault code) reds distances outbound inbound = refusing code

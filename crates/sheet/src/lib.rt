@@ -7,8 +7,9 @@ ghost use Rattle.road.specs.Limits.{maxSignals};
 ghost use Rattle.sheet.specs.Bytes.{maxBytes, kindOf};
 ghost use Rattle.sheet.specs.Numbers.{number, more};
 ghost use Rattle.sheet.specs.Sections.{pairs, section, cycleSection};
-ghost use Rattle.sheet.specs.Reading.{readingOf, refusing};
-ghost use Rattle.sheet.specs.Cursors.{found, columns, inArrays, fromColumns};
+ghost use Rattle.sheet.specs.Reading.{readingOf};
+ghost use Rattle.sheet.specs.Filled.{Zeros, assembled};
+ghost use Rattle.sheet.specs.Cursors.{found, opened, Allowed, columns, inArrays, answered};
 use street::Code;
 use street::Refusal;
 use street::Street;
@@ -57,18 +58,29 @@ enum Number {
     Unreadable,
 }
 
-// Where reading stands after some lines: past the last of them, or at the fault that stopped it.
+// A section's count: how many lines, and the cursor past its own line; or the fault that stopped reading.
+enum Count {
+    Of(usize, usize),
+    Wrong(Code),
+}
+
+// Where reading stands after some lines: past the last of them, or at one that cannot be read.
 enum Stand {
     At(usize),
+    Stopped,
+}
+
+// What the sections come to beside their columns: how many signals, and the cycle; or the fault that stopped reading.
+enum Outcome {
+    Numbers(usize, u32),
     Fault(Code),
 }
 
-// Some lines of two numbers: how many, and their two columns, each filled up with 0.
-struct Columns {
-    end: Stand,
-    lines: usize,
-    left: [u32; Street::MAX_SIGNALS],
-    right: [u32; Street::MAX_SIGNALS],
+// A reading without its columns.
+struct Head {
+    verdict: Verdict,
+    signals: usize,
+    cycle: u32,
 }
 
 // Every decision on a byte is taken here.
@@ -124,61 +136,47 @@ fn number_at(bytes: &[u8], at: usize) -> Number
     digits(bytes, at + 1, digit)
 }
 
-// Where reading stops, no columns are handed on.
-fn faulty(code: Code) -> Columns
-    ensures { λ r. ⌜ r .end ≡ Stand.Fault code ⌝ }
+// A section's count, judged as soon as its line is read.
+fn count_at(bytes: &[u8], at: usize, least: usize, most: usize) -> Count
+    ensures { λ r. ⌜ (opened (now (bytes .entry)) r ≡ section least most (drop at (now (bytes .entry)))) × Allowed least most r ⌝ }
 {
-    Columns {
-        end: Stand::Fault(code),
-        lines: 0,
-        left: [0; Street::MAX_SIGNALS],
-        right: [0; Street::MAX_SIGNALS],
+    let Number::Ended(count, next) = number_at(bytes, at) else {
+        return Count::Wrong(Code::Sheet);
+    };
+    let lines = count as usize;
+    if lines < least {
+        return Count::Wrong(Code::Count);
     }
+    if lines > most {
+        return Count::Wrong(Code::Count);
+    }
+    Count::Of(lines, next)
 }
 
-// The two columns of `count` lines, whether of signals or of links.
-fn columns_at(bytes: &[u8], from: usize, count: usize) -> Columns
-    requires { ⌜ count ≤ maxSignals ⌝ }
-    ensures { λ r. ⌜ columns (now (bytes .entry)) r ≡ inArrays (pairs count (drop from (now (bytes .entry)))) ⌝ }
+// The two columns of `count` lines, whether of signals or of links, into two arrays that come in all 0.
+fn columns_at(
+    bytes: &[u8],
+    from: usize,
+    count: usize,
+    left: &mut [u32; Street::MAX_SIGNALS],
+    right: &mut [u32; Street::MAX_SIGNALS],
+) -> Stand
+    requires { ⌜ (count ≤ maxSignals) × Zeros (now left) × Zeros (now right) ⌝ }
+    ensures { λ r. ⌜ columns (now (bytes .entry)) r (now (left .exit)) (now (right .exit)) ≡ inArrays (pairs count (drop from (now (bytes .entry)))) ⌝ }
 {
-    let mut left = [0u32; Street::MAX_SIGNALS];
-    let mut right = [0u32; Street::MAX_SIGNALS];
     let mut at = from;
     for i in 0..count {
         let Number::Spaced(x, next) = number_at(bytes, at) else {
-            return faulty(Code::Sheet);
+            return Stand::Stopped;
         };
         let Number::Ended(y, end) = number_at(bytes, next) else {
-            return faulty(Code::Sheet);
+            return Stand::Stopped;
         };
         left[i] = x;
         right[i] = y;
         at = end;
     }
-    Columns {
-        end: Stand::At(at),
-        lines: count,
-        left,
-        right,
-    }
-}
-
-// A section: its count, judged as soon as its line is read, and as many lines of two numbers.
-fn section_at(bytes: &[u8], at: usize, least: usize, most: usize) -> Columns
-    requires { ⌜ most ≤ maxSignals ⌝ }
-    ensures { λ r. ⌜ columns (now (bytes .entry)) r ≡ inArrays (section least most (drop at (now (bytes .entry)))) ⌝ }
-{
-    let Number::Ended(count, next) = number_at(bytes, at) else {
-        return faulty(Code::Sheet);
-    };
-    let lines = count as usize;
-    if lines < least {
-        return faulty(Code::Count);
-    }
-    if lines > most {
-        return faulty(Code::Count);
-    }
-    columns_at(bytes, next, lines)
+    Stand::At(at)
 }
 
 // The first section: its count, which is 1, and the cycle.
@@ -194,71 +192,104 @@ fn cycle_at(bytes: &[u8], at: usize) -> Number
     number_at(bytes, next)
 }
 
-// The reader's refusals name no place.
-fn refused(code: Code) -> Reading
-    ensures { λ r. ⌜ r ≡ refusing code ⌝ }
+// The sections, each column into an array that comes in all 0. A signal's line has its distance before its red, a link's its
+// outbound speed before its inbound one. What was read before a fault is left in the arrays.
+fn parse(
+    bytes: &[u8],
+    reds: &mut [u32; Street::MAX_SIGNALS],
+    distances: &mut [u32; Street::MAX_SIGNALS],
+    outbound: &mut [u32; Street::MAX_SIGNALS],
+    inbound: &mut [u32; Street::MAX_SIGNALS],
+) -> Outcome
+    requires { ⌜ Zeros (now reds) × Zeros (now distances) × Zeros (now outbound) × Zeros (now inbound) ⌝ }
+    ensures { λ r. ⌜ answered r (now (reds .exit)) (now (distances .exit)) (now (outbound .exit)) (now (inbound .exit)) ≡ readingOf (now (bytes .entry)) ⌝ }
 {
-    Reading {
-        verdict: Verdict::Refused(Refusal { code, place: 0 }),
-        sheet: Sheet {
-            signals: 0,
-            cycle: 0,
-            reds: [0; Street::MAX_SIGNALS],
-            distances: [0; Street::MAX_SIGNALS],
-            outbound: [0; Street::MAX_SIGNALS],
-            inbound: [0; Street::MAX_SIGNALS],
-        },
+    if bytes.len() > Sheet::MAX_BYTES {
+        return Outcome::Fault(Code::Sheet);
+    }
+    let Number::Ended(cycle, at) = cycle_at(bytes, 0) else {
+        return Outcome::Fault(Code::Sheet);
+    };
+    match count_at(bytes, at, Street::MIN_SIGNALS, Street::MAX_SIGNALS) {
+        Count::Wrong(code) => Outcome::Fault(code),
+        Count::Of(signals, first) => {
+            let Stand::At(next) = columns_at(bytes, first, signals, distances, reds) else {
+                return Outcome::Fault(Code::Sheet);
+            };
+            let count = signals - 1;
+            match count_at(bytes, next, count, count) {
+                Count::Wrong(code) => Outcome::Fault(code),
+                Count::Of(links, second) => {
+                    let Stand::At(last) = columns_at(bytes, second, links, outbound, inbound) else {
+                        return Outcome::Fault(Code::Sheet);
+                    };
+                    if last < bytes.len() {
+                        return Outcome::Fault(Code::Sheet);
+                    }
+                    Outcome::Numbers(signals, cycle)
+                }
+            }
+        }
     }
 }
 
-// A signal's line has its distance before its red, a link's its outbound speed before its inbound one.
-fn accepted(cycle: u32, signals: Columns, links: Columns) -> Reading
-    ensures { λ r. ⌜ r ≡ fromColumns cycle signals links ⌝ }
+// The numbers of a sheet, with its columns in four lent arrays; or the refusal of its first fault, which has code 1 or 2 and
+// place 0, with the arrays all 0. They come in all 0 too, as `read` makes them.
+fn fill(
+    bytes: &[u8],
+    reds: &mut [u32; Street::MAX_SIGNALS],
+    distances: &mut [u32; Street::MAX_SIGNALS],
+    outbound: &mut [u32; Street::MAX_SIGNALS],
+    inbound: &mut [u32; Street::MAX_SIGNALS],
+) -> Head
+    requires { ⌜ Zeros (now reds) × Zeros (now distances) × Zeros (now outbound) × Zeros (now inbound) ⌝ }
+    ensures { λ r. ⌜ assembled r (now (reds .exit)) (now (distances .exit)) (now (outbound .exit)) (now (inbound .exit)) ≡ readingOf (now (bytes .entry)) ⌝ }
 {
-    let reds = signals.right;
-    let distances = signals.left;
-    let outbound = links.left;
-    let inbound = links.right;
-    Reading {
-        verdict: Verdict::Passed,
-        sheet: Sheet {
-            signals: signals.lines,
+    match parse(bytes, reds, distances, outbound, inbound) {
+        Outcome::Numbers(signals, cycle) => Head {
+            verdict: Verdict::Passed,
+            signals,
             cycle,
+        },
+        Outcome::Fault(code) => {
+            *reds = [0; Street::MAX_SIGNALS];
+            *distances = [0; Street::MAX_SIGNALS];
+            *outbound = [0; Street::MAX_SIGNALS];
+            *inbound = [0; Street::MAX_SIGNALS];
+            Head {
+                verdict: Verdict::Refused(Refusal { code, place: 0 }),
+                signals: 0,
+                cycle: 0,
+            }
+        }
+    }
+}
+
+// The same, with the arrays in the reply.
+pub fn read(bytes: &[u8]) -> Reading
+    ensures { λ r. ⌜ r ≡ readingOf (now (bytes .entry)) ⌝ }
+{
+    let mut reds = [0u32; Street::MAX_SIGNALS];
+    let mut distances = [0u32; Street::MAX_SIGNALS];
+    let mut outbound = [0u32; Street::MAX_SIGNALS];
+    let mut inbound = [0u32; Street::MAX_SIGNALS];
+    let head = fill(
+        bytes,
+        &mut reds,
+        &mut distances,
+        &mut outbound,
+        &mut inbound,
+    );
+    let verdict = head.verdict;
+    Reading {
+        verdict,
+        sheet: Sheet {
+            signals: head.signals,
+            cycle: head.cycle,
             reds,
             distances,
             outbound,
             inbound,
         },
-    }
-}
-
-// The numbers of a sheet, or the refusal of its first fault, which has code 1 or 2 and place 0.
-pub fn read(bytes: &[u8]) -> Reading
-    ensures { λ r. ⌜ r ≡ readingOf (now (bytes .entry)) ⌝ }
-{
-    if bytes.len() > Sheet::MAX_BYTES {
-        return refused(Code::Sheet);
-    }
-    let Number::Ended(cycle, at) = cycle_at(bytes, 0) else {
-        return refused(Code::Sheet);
-    };
-    let signals = section_at(bytes, at, Street::MIN_SIGNALS, Street::MAX_SIGNALS);
-    let stand = signals.end;
-    match stand {
-        Stand::Fault(code) => refused(code),
-        Stand::At(next) => {
-            let count = signals.lines - 1;
-            let links = section_at(bytes, next, count, count);
-            let end = links.end;
-            match end {
-                Stand::Fault(code) => refused(code),
-                Stand::At(last) => {
-                    if last < bytes.len() {
-                        return refused(Code::Sheet);
-                    }
-                    accepted(cycle, signals, links)
-                }
-            }
-        }
     }
 }

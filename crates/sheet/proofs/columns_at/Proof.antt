@@ -6,8 +6,8 @@ use mathlib.Core.Path.{_≡_, sym, ap, _∙_}
 use lib.ListN.{drop}
 use borrow.Author.Needs.{needs}
 use Rattle.sheet.specs.Numbers.{spaced, number}
-use Rattle.sheet.specs.Cursors.{found}
-use Rattle.sheet.proofs.Lines.{stopped, SoFar, so-far-none, so-far-all, Turn, no-first, no-second, one-line}
+use Rattle.sheet.specs.Cursors.{found, inArrays}
+use Rattle.sheet.proofs.Lines.{SoFar, so-far-none, so-far-all, Turn, no-first, no-second, one-line}
 use Rattle.sheet.proofs.columns_at.Statement.{statement}
 use Rattle.sheet.proofs.columns_at.Tie as tie
 
@@ -18,7 +18,9 @@ abbrev μ-loop : tie.MeasureT-loop
 μ-loop bytes from count left₀ right₀ at₀ i₀ left right at i = count - i
 
 loop-holds : tie.Need-loop-holds Inv-loop μ-loop
-loop-holds c = so-far-none (c .before .args .bytes .now) (c .before .args .from) (c .before .args .count)
+loop-holds c =
+    let b = c .before in
+    so-far-none (b .args .bytes .now) (b .args .from) (b .args .count) (b .args .left .now) (b .args .right .now) (b .pre .1) (b .pre .2)
 
 turn : (c : tie.In-loop Inv-loop μ-loop) →
     Turn
@@ -29,7 +31,7 @@ turn : (c : tie.In-loop Inv-loop μ-loop) →
     (c .before .loop .right)
     (c .before .loop .at)
     (c .before .loop .i)
-turn c = record { so-far = c .before .loop .inv; left-over = c .loop-test .taken; few = c .before .before .before .pre }
+turn c = record { so-far = c .before .loop .inv; left-over = c .loop-test .taken; few = c .before .before .before .pre .0 }
 
 -- the first number of the line
 first-number : (c : tie.After-x Inv-loop μ-loop) →
@@ -45,14 +47,10 @@ number-at-requires c κs = search needs
 enum-known-x : tie.Need-enum-known-x Inv-loop μ-loop
 enum-known-x c = search needs
 
-faulty-requires : tie.Need-faulty-requires Inv-loop μ-loop
-faulty-requires c κs = search needs
-
 returns : tie.Need-returns Inv-loop μ-loop
 returns c =
-    let n = c .before .before in
-    stopped (n .before .before .before .before .args .bytes .now) (c .faulty .result) _ _ (c .faulty .ensures)
-    (no-first (turn (n .before)) (n .number-at .result) (n .number-at .ensures) (c .before .match .keys2))
+    let n = c .before in
+    sym (ap inArrays (no-first (turn (n .before)) (n .number-at .result) (n .number-at .ensures) (c .match .keys2)))
 
 number-at-requires-2 : tie.Need-number-at-requires-2 Inv-loop μ-loop
 number-at-requires-2 c κs = search needs
@@ -60,28 +58,26 @@ number-at-requires-2 c κs = search needs
 enum-known-y : tie.Need-enum-known-y Inv-loop μ-loop
 enum-known-y c = search needs
 
-faulty-requires-2 : tie.Need-faulty-requires-2 Inv-loop μ-loop
-faulty-requires-2 c κs = search needs
-
 returns-2 : tie.Need-returns-2 Inv-loop μ-loop
 returns-2 c =
-    let m = c .before .before in
+    let m = c .before in
     let f = m .before .before in
     let n = f .before .before in
-    stopped (n .before .before .before .before .args .bytes .now) (c .faulty2 .result) _ _ (c .faulty2 .ensures)
-    (no-second (turn (n .before)) (f .x .given .0 .1 .0) (first-number f) (m .number-at2 .result) (m .number-at2 .ensures) (c .before .match2 .keys2))
+    sym
+    (ap inArrays
+    (no-second (turn (n .before)) (f .x .given .0 .1 .0) (first-number f) (m .number-at2 .result) (m .number-at2 .ensures) (c .match2 .keys2)))
 
 mul-left : tie.Need-mul-left Inv-loop μ-loop
 mul-left c = search needs
 
-array-write-left : tie.Need-array-write-left Inv-loop μ-loop
-array-write-left c = search needs
+element-write-left : tie.Need-element-write-left Inv-loop μ-loop
+element-write-left c = search needs
 
 mul-right : tie.Need-mul-right Inv-loop μ-loop
 mul-right c = search needs
 
-array-write-right : tie.Need-array-write-right Inv-loop μ-loop
-array-write-right c = search needs
+element-write-right : tie.Need-element-write-right Inv-loop μ-loop
+element-write-right c = search needs
 
 add-i : tie.Need-add-i Inv-loop μ-loop
 add-i c = search needs
@@ -99,7 +95,7 @@ loop-again c =
     (sym (m .number-at2 .ensures) ∙ ap (found (n .before .before .before .before .args .bytes .now)) (g .y .given .1))
 
 returns-3 : tie.Need-returns-3 Inv-loop μ-loop
-returns-3 c = so-far-all (c .before .loop .inv) (c .before .before .before .pre) (c .loop-test .left)
+returns-3 c = so-far-all (c .before .loop .inv) (c .before .before .before .pre .0) (c .loop-test .left)
 
 pub columns-at-spec : {M : Type 1} → statement M
 columns-at-spec =
@@ -110,16 +106,14 @@ columns-at-spec =
     loop-holds
     number-at-requires
     enum-known-x
-    faulty-requires
     returns
     number-at-requires-2
     enum-known-y
-    faulty-requires-2
     returns-2
     mul-left
-    array-write-left
+    element-write-left
     mul-right
-    array-write-right
+    element-write-right
     add-i
     loop-less
     loop-again
