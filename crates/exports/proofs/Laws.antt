@@ -1,13 +1,14 @@
 -- How the library's contracts carry over to C's structs, for any lists and replies. Assumes nothing.
 use Prim.Native.Nat.{ℕ}
-use mathlib.Core.Path.{_≡_, sym, ap, _∙_}
+use mathlib.Core.Path.{_≡_, ap, ap₂, _∙_}
 use mathlib.Core.List.{List}
 use lib.IntN.{ℤ}
 use Rattle.street.specs.Codes.{codeNumber, codeOf, placeOf}
 use Rattle.street.specs.Lists.{Lists}
 use Rattle.street.specs.declared.Refusal.{Refusal}
-use Rattle.street.specs.declared.Verdict.the-variants as verdict
+use Rattle.sheet.specs.declared.Head.{Head}
 use Rattle.sheet.specs.declared.Reading.{Reading}
+use Rattle.sheet.specs.Filled.{assembled}
 use Rattle.plans.specs.Answers.{noPlan}
 use Rattle.plans.specs.Requests as plans
 use Rattle.plans.specs.declared.Plan.{Plan}
@@ -17,7 +18,6 @@ use Rattle.widths.specs.declared.Request.{Request}
 use Rattle.bands.specs.Measure.{noBand}
 use Rattle.bands.specs.declared.Measurement.the-variants as measurement
 use Rattle.exports.specs.declared.CorbatanPlan.{CorbatanPlan}
-use Rattle.exports.specs.declared.CorbatanSheet.{CorbatanSheet}
 use Rattle.exports.specs.Flat.{planFields, flatPlan, measureFields, flatMeasure, flatSheet, flatReading}
 use Rattle.exports.specs.Calls.{Requested}
 
@@ -53,11 +53,10 @@ measure-refused f code e = ap (λ k. measureFields (record { code = k; place = f
 pub requested-flat : (asked : Request) (l : Lists) (entry exit : List ℕ) (a : Answer) (r : CorbatanPlan) → plans.Requested asked l entry exit a → r ≡ flatPlan a → Requested asked l entry exit r
 requested-flat asked l entry exit a r found e = record { reply = e ∙ ap flatPlan (found .reply); after = found .after }
 
--- a reading by its verdict
-module _ (r r′ : Reading) (x : CorbatanSheet) (same : r ≡ r′) where
-  pub reading-passed : r .verdict ≡ verdict.Passed → x ≡ flatSheet 0 0 (r .sheet) → x ≡ flatReading r′
-  reading-passed v e = e ∙ ap (λ w. flatSheet (codeOf w) (placeOf w) (r .sheet)) (sym v) ∙ ap flatReading same
-
-  pub reading-refused : (f : Refusal) (code : ℕ) → r .verdict ≡ verdict.Refused f → code ≡ codeNumber (f .code) → x ≡ flatSheet code (f .place) (r .sheet) → x ≡ flatReading r′
-  reading-refused f code v k e =
-      e ∙ ap (λ n. flatSheet n (f .place) (r .sheet)) k ∙ ap (λ w. flatSheet (codeOf w) (placeOf w) (r .sheet)) (sym v) ∙ ap flatReading same
+-- a reading by its head and its columns, with the head's verdict in numbers
+pub reading-flat :
+    (h : Head) (reds distances outbound inbound : List ℕ) (r : Reading) (code place : ℕ) →
+    assembled h reds distances outbound inbound ≡ r → code ≡ codeOf (h .verdict) → place ≡ placeOf (h .verdict) →
+    flatSheet code place (assembled h reds distances outbound inbound .sheet) ≡ flatReading r
+reading-flat h reds distances outbound inbound r code place same k q =
+    ap₂ (λ n p. flatSheet n p (assembled h reds distances outbound inbound .sheet)) k q ∙ ap flatReading same

@@ -4,19 +4,19 @@ use bands::Measurement;
 use plans::Answer;
 use plans::Request;
 use printed::Printed;
-use sheet::Sheet;
 use street::Street;
 use street::Verdict;
 use street::code_number;
 ghost use mathlib.Core.Path.{_≡_};
 ghost use Rattle.road.specs.Limits.{maxSignals};
+ghost use Rattle.street.specs.Codes.{codeOf, placeOf};
 ghost use Rattle.street.specs.Lists.{typed};
 ghost use Rattle.sheet.specs.Reading.{readingOf};
 ghost use Rattle.widths.specs.declared.Request.the-variants.{Equal, Outbound, Inbound, Platoons};
 ghost use Rattle.bands.specs.Measure.{measurementOf};
 ghost use Rattle.printed.specs.Text.{printedOf};
 ghost use Rattle.printed.specs.Way.{equalText};
-ghost use Rattle.exports.specs.Flat.{flatPlan, flatMeasure, flatSheet, flatReading, flatText};
+ghost use Rattle.exports.specs.Flat.{flatPlan, flatMeasure, flatReading, flatText};
 ghost use Rattle.exports.specs.Calls.{Requested};
 
 // A plan's numbers or a refusal's, with document 01's number for the refusal. Widths, B and instants are in halves.
@@ -62,6 +62,12 @@ pub struct CorbatanSheet {
 pub struct CorbatanText {
     pub count: usize,
     pub bytes: [u8; Printed::MAX_BYTES],
+}
+
+// The code and place of a verdict, both 0 where nothing was refused.
+struct Numbers {
+    code: u32,
+    place: u32,
 }
 
 // Any plan's answer.
@@ -123,23 +129,19 @@ fn measure(answer: Measurement) -> CorbatanMeasure
     }
 }
 
-// A sheet's numbers beside the code and place of its verdict.
-fn numbered(s: Sheet, code: u32, place: u32) -> CorbatanSheet
-    ensures { λ r. ⌜ r ≡ flatSheet code place s ⌝ }
+// A verdict in numbers.
+fn numbered(verdict: Verdict) -> Numbers
+    ensures { λ r. ⌜ (r .code ≡ codeOf verdict) × (r .place ≡ placeOf verdict) ⌝ }
 {
-    let reds = s.reds;
-    let distances = s.distances;
-    let outbound = s.outbound;
-    let inbound = s.inbound;
-    CorbatanSheet {
-        code,
-        place,
-        signals: s.signals,
-        cycle: s.cycle,
-        reds,
-        distances,
-        outbound,
-        inbound,
+    match verdict {
+        Verdict::Passed => Numbers { code: 0, place: 0 },
+        Verdict::Refused(f) => {
+            let code = f.code;
+            Numbers {
+                code: code_number(code),
+                place: f.place,
+            }
+        }
     }
 }
 
@@ -269,20 +271,33 @@ pub extern "C" fn corbatan_measure(
     measure(bands::measure(cycle, reds, distances, outbound, inbound, offsets))
 }
 
-// The numbers of a sheet's bytes.
+// The numbers of a sheet's bytes. The arrays are filled where they stand and copied once, into the reply.
 #[no_mangle]
 pub extern "C" fn corbatan_read(bytes: &[u8]) -> CorbatanSheet
     ensures { λ r. ⌜ r ≡ flatReading (readingOf (now (bytes .entry))) ⌝ }
 {
-    let reading = sheet::read(bytes);
-    let verdict = reading.verdict;
-    let numbers = reading.sheet;
-    match verdict {
-        Verdict::Passed => numbered(numbers, 0, 0),
-        Verdict::Refused(f) => {
-            let code = f.code;
-            numbered(numbers, code_number(code), f.place)
-        }
+    let mut reds = [0u32; Street::MAX_SIGNALS];
+    let mut distances = [0u32; Street::MAX_SIGNALS];
+    let mut outbound = [0u32; Street::MAX_SIGNALS];
+    let mut inbound = [0u32; Street::MAX_SIGNALS];
+    let head = sheet::fill(
+        bytes,
+        &mut reds,
+        &mut distances,
+        &mut outbound,
+        &mut inbound,
+    );
+    let verdict = head.verdict;
+    let numbers = numbered(verdict);
+    CorbatanSheet {
+        code: numbers.code,
+        place: numbers.place,
+        signals: head.signals,
+        cycle: head.cycle,
+        reds,
+        distances,
+        outbound,
+        inbound,
     }
 }
 

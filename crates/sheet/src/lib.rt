@@ -31,6 +31,13 @@ pub struct Reading {
     pub sheet: Sheet,
 }
 
+// A reading whose columns stand in lent arrays.
+pub struct Head {
+    pub verdict: Verdict,
+    pub signals: usize,
+    pub cycle: u32,
+}
+
 impl Sheet {
     // A longer sheet is refused before anything of it is read.
     pub const MAX_BYTES: usize = 2_048;
@@ -74,13 +81,6 @@ enum Stand {
 enum Outcome {
     Numbers(usize, u32),
     Fault(Code),
-}
-
-// A reading without its columns.
-struct Head {
-    verdict: Verdict,
-    signals: usize,
-    cycle: u32,
 }
 
 // Every decision on a byte is taken here.
@@ -234,8 +234,8 @@ fn parse(
 }
 
 // The numbers of a sheet, with its columns in four lent arrays; or the refusal of its first fault, which has code 1 or 2 and
-// place 0, with the arrays all 0. They come in all 0 too, as `read` makes them.
-fn fill(
+// place 0, with the arrays all 0. They come in all 0 too: `read` and `corbatan_read` of `exports` have just made them.
+pub fn fill(
     bytes: &[u8],
     reds: &mut [u32; Street::MAX_SIGNALS],
     distances: &mut [u32; Street::MAX_SIGNALS],

@@ -16,7 +16,7 @@ use Rattle.sheet.proofs.Replies.{too-long, no-cycle, CycleAt, signals-f
 use Rattle.sheet.proofs.parse.Statement.{statement}
 use Rattle.sheet.proofs.parse.Tie as tie
 
--- the step before each of these
+-- from each step that read something back to the one before it, and from the first of them to the sheet's bytes
 abbrev the-cycle : tie.After-signals → tie.After-cycle
 the-cycle c = c .before .before .before .before
 
