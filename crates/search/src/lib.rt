@@ -75,10 +75,10 @@ fn least(pairs: &[[u32; 2]; Street::MAX_SIGNALS], n: usize) -> u32
     ensures { λ r. ⌜ pos r ≡ leastBelow n (λ j. pos (wider (now (pairs .entry)) j)) ⌝ }
 {
     let mut low = circle::larger(pairs[0][0], pairs[0][1]);
-    let mut j: usize = 0;
-    while j < n {
-        low = circle::smaller(low, circle::larger(pairs[j][0], pairs[j][1]));
-        j += 1;
+    let mut limit: usize = 0;
+    while limit < n {
+        low = circle::smaller(low, circle::larger(pairs[limit][0], pairs[limit][1]));
+        limit += 1;
     }
     low
 }

@@ -74,8 +74,8 @@ larger-requires-2 c κs = search needs
 smaller-requires : tie.Need-smaller-requires Inv-loop μ-loop
 smaller-requires c κs = search needs
 
-add-j : tie.Need-add-j Inv-loop μ-loop
-add-j c = search needs
+add-limit : tie.Need-add-limit Inv-loop μ-loop
+add-limit c = search needs
 
 loop-less : tie.Need-loop-less Inv-loop μ-loop
 loop-less c = search needs
@@ -86,13 +86,13 @@ loop-again c =
     let f : ℕ → ℤ = λ q. pos (wider (c .before .before .before .before .before .before .before .before .before .args .pairs .now) q) in
     let here = c .before .larger2 in
     let value = ap pos (c .smaller .ensures) ∙ pos-min (loop .low) (here .result) ∙ ap₂ minℤ (loop .inv .1) (ap pos (here .ensures)) in
-    let next : loop .j + 1 ≡ max 1 (loop .j + 1) = omega arith in
-    (omega arith, value ∙ least-next (loop .j) f ∙ ap (λ (k : ℕ). leastBelow k f) next)
+    let next : loop .limit + 1 ≡ max 1 (loop .limit + 1) = omega arith in
+    (omega arith, value ∙ least-next (loop .limit) f ∙ ap (λ (k : ℕ). leastBelow k f) next)
 
 returns : tie.Need-returns Inv-loop μ-loop
 returns c =
     let c0 = c .before .before .before .before .before in
-    let all : max 1 (c .before .loop .j) ≡ c0 .args .n = omega arith in
+    let all : max 1 (c .before .loop .limit) ≡ c0 .args .n = omega arith in
     c .before .loop .inv .1 ∙ ap (λ (k : ℕ). leastBelow k (λ q. pos (wider (c0 .args .pairs .now) q))) all
 
 pub least-spec : {M : Type 1} → statement M
@@ -115,7 +115,7 @@ least-spec =
     index-2-larger-4
     larger-requires-2
     smaller-requires
-    add-j
+    add-limit
     loop-less
     loop-again
     returns)
