@@ -94,10 +94,11 @@ fn summary(all: &[Vec<Line>]) {
         println!("| {} | {} |", name, cells.join(" | "));
     };
     for signals in SIGNALS {
-        let name = format!("same, n = {}; goal 1.1", signals);
+        let goal = if signals < 10 { 1.5 } else { 1.1 };
+        let name = format!("same, n = {}; goal {}", signals, goal);
         row(&name, &|lines| greatest(lines, |line| line.signals == signals, |line| line.same));
     }
-    let name = format!("plain, n = {}; goal 0.5", most);
+    let name = format!("plain, n = {}; goal of the plans 0.35", most);
     row(&name, &|lines| greatest(lines, |line| line.signals == most, |line| line.plain));
     println!();
 }
