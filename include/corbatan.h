@@ -59,8 +59,8 @@
 
 /*
  * How many bytes of stack are enough for any of the calls, with its arguments and its reply. client/stack.c measures
- * what they take, on streets of up to 32 signals, on requests and on refusals: corbatan_print 14,488, a plan 10,472,
- * corbatan_read 3,328, corbatan_measure 2,568. The rest is room, as for the dynamic linker, which takes some 2,000
+ * what they take, on streets of up to 32 signals, on requests and on refusals: corbatan_print 12,712, a plan 10,104,
+ * corbatan_read 1,344, corbatan_measure 2,008. The rest is room, as for the dynamic linker, which takes some 2,000
  * bytes of the caller's stack where it binds memcpy or memset at their first use.
  */
 #define CORBATAN_STACK 20480
