@@ -3,10 +3,9 @@
 mod times;
 
 ghost use mathlib.Core.Path.{_≡_};
-ghost use lib.ListN.{length, replicate};
-ghost use Rattle.road.specs.Limits.{maxSignals};
+ghost use lib.ListN.{length};
 ghost use Rattle.road.specs.Times.{Driveable};
-ghost use Rattle.road.specs.Roads.{roadOf, laid};
+ghost use Rattle.road.specs.Roads.{Zeros, roadOf, laid};
 
 // A road: how many signals, for each the outbound ticks from signal 1 to it and the inbound ticks from it to signal 1, and the
 // number of links with a rounded time. Entries from `signals` on are 0.
@@ -30,7 +29,7 @@ impl Road {
         out: &mut [u32; Road::MAX_SIGNALS],
         back: &mut [u32; Road::MAX_SIGNALS],
     ) -> u32
-        requires { ⌜ Driveable (now distances) (now outbound) × Driveable (now distances) (now inbound) × (now out ≡ replicate maxSignals 0) × (now back ≡ replicate maxSignals 0) ⌝ }
+        requires { ⌜ Driveable (now distances) (now outbound) × Driveable (now distances) (now inbound) × Zeros (now out) × Zeros (now back) ⌝ }
         ensures { λ r. ⌜ laid (length (now (distances .entry))) (now (out .exit)) (now (back .exit)) r ≡ roadOf (length (now (distances .entry))) (now (distances .entry)) (now (outbound .entry)) (now (inbound .entry)) ⌝ }
     {
         let mut there: u32 = 0;

@@ -5,9 +5,9 @@ pub mod checks;
 use road::Road;
 ghost use mathlib.Core.Path.{_≡_};
 ghost use Prim.Native.Nat.{_≤_};
-ghost use lib.ListN.{length, getD, replicate};
+ghost use lib.ListN.{length, getD};
 ghost use Rattle.road.specs.Limits.{minSignals, maxSignals, maxDistance, minSpeed, maxSpeed};
-ghost use Rattle.road.specs.Roads.{padded};
+ghost use Rattle.road.specs.Roads.{Zeros, padded};
 ghost use Rattle.street.specs.Limits.{minCycle, maxCycle, minRed, maxPlatoon};
 ghost use Rattle.street.specs.Lists.{typed};
 ghost use Rattle.street.specs.Codes.{codeNumber};
@@ -92,7 +92,7 @@ pub struct Surveyed {
 
 // A list as the entries of a street: copied into an array of zeros.
 fn copied(list: &[u32], all: &mut [u32; Street::MAX_SIGNALS])
-    requires { ⌜ (length (now list) ≤ maxSignals) × (now all ≡ replicate maxSignals 0) ⌝ }
+    requires { ⌜ (length (now list) ≤ maxSignals) × Zeros (now all) ⌝ }
     ensures { λ _. ⌜ now (all .exit) ≡ padded (length (now (list .entry))) (λ j. getD (now (list .entry)) j 0) ⌝ }
 {
     let mut i: usize = 0;
