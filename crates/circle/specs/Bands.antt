@@ -48,24 +48,21 @@ width w = greatestUpTo (w .around) (λ k. someBelow (w .around) (λ x. stretch w
 unfoldable pub bandStart : Way → ℕ
 bandStart w = indexOf (firstBelow (w .around) (λ x. stretch w x (width w)))
 
--- outbound under given offsets, counted at signal 1: instants are in halves, so a time of t ticks adds 2t, and a red of r ticks lasts 2r
-abbrev pub outboundWay : Timed → (ℕ → ℕ) → Way
-outboundWay s offset =
+-- the way through a street under given offsets, in halves, for a car that is at each signal some lag after its departure: a red of r ticks lasts 2r
+abbrev pub wayThrough : Timed → (ℕ → ℕ) → (ℕ → ℕ) → Way
+wayThrough s offset lag =
     record {
       around = halves s;
       signals = s .signals;
       start = λ j. redStart s j (offset j);
       length = λ j. 2 * s .red j;
-      lag = λ j. 2 * s .outbound j;
+      lag = lag;
     }
+
+-- outbound, counted at signal 1: a time of t ticks adds 2t
+abbrev pub outboundWay : Timed → (ℕ → ℕ) → Way
+outboundWay s offset = wayThrough s offset (λ j. 2 * s .outbound j)
 
 -- inbound, counted at signal n
 abbrev pub inboundWay : Timed → (ℕ → ℕ) → Way
-inboundWay s offset =
-    record {
-      around = halves s;
-      signals = s .signals;
-      start = λ j. redStart s j (offset j);
-      length = λ j. 2 * s .red j;
-      lag = λ j. 2 * (s .inbound (s .signals - 1) - s .inbound j);
-    }
+inboundWay s offset = wayThrough s offset (λ j. 2 * (s .inbound (s .signals - 1) - s .inbound j))
