@@ -1,6 +1,7 @@
 pub mod Streets
-pub mod Measured
-pub mod Rounded
-pub mod Exact
+pub mod Bands
+pub mod Kept
 pub mod Replies
+pub mod Laws
 pub mod Rows
+pub mod Witnesses

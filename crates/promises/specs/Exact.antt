@@ -1,14 +1,12 @@
--- Exact times (01, 'Travel time', and 'Red, departure, band', last paragraph): a unit of N to the half, so fine that every exact travel time of the street is whole in it.
--- Cycle, reds, offsets and times are counted in that unit, and bands are measured by the same definitions as everywhere.
+-- Both directions through a street at rounded and at exact times (01, 'Travel time', and 'Red, departure, band', last paragraph), counted in a unit of N to the half. Cycle, reds, offsets
+-- and times are in that unit; bands are measured by the same definitions as everywhere.
 use Prim.Native.Nat.{ℕ, _-_, _*_, _/_, _%_, _<_}
 use mathlib.Core.Path.{_≡_}
 use mathlib.Core.List.{List}
-use lib.IntN.{pos, _-ℤ_}
 use lib.ListN.{getD}
-use Rattle.circle.specs.Man.{man}
 use Rattle.circle.specs.Over.{sumBelow}
-use Rattle.circle.specs.Method.{halves}
-use Rattle.circle.specs.Bands.{Way}
+use Rattle.circle.specs.Method.{inUnits}
+use Rattle.circle.specs.Bands.{Way, wayThrough, outboundWay, inboundWay}
 use Rattle.road.specs.Times.{linkLength}
 use Rattle.street.specs.Lists.{Lists, signals}
 use Rattle.street.specs.Streets.{timed}
@@ -28,23 +26,23 @@ exactLink N distances speeds k = 20 * linkLength distances k * N / getD speeds k
 abbrev pub exactTo : ℕ → List ℕ → List ℕ → ℕ → ℕ
 exactTo N distances speeds j = sumBelow j (exactLink N distances speeds)
 
--- a direction by its lags, under offsets f in the fine unit: red covers f-r up to f+r, round the cycle (01, 'Red, departure, band')
-abbrev pub exactWay : Lists → ℕ → (ℕ → ℕ) → (ℕ → ℕ) → Way
-exactWay l N f lag =
+-- both directions through a street, each a way by the offsets, and how many of the unit make a half
+pub record Ways : Type 0 where
+  pub unit : ℕ
+  pub outbound : (ℕ → ℕ) → Way
+  pub inbound : (ℕ → ℕ) → Way
+
+-- at rounded times, with offsets and departures at every instant of the unit: whole halves where N is 1, finer ones above
+abbrev pub roundedWays : Lists → ℕ → Ways
+roundedWays l N = record { unit = N; outbound = outboundWay (inUnits N (timed l)); inbound = inboundWay (inUnits N (timed l)) }
+
+-- at exact times: outbound counted at signal 1, inbound at signal n
+abbrev pub exactWays : Lists → ℕ → Ways
+exactWays l N =
+    let out = exactTo N (l .distances) (l .outbound) in
+    let back = exactTo N (l .distances) (l .inbound) in
     record {
-      around = N * halves (timed l);
-      signals = signals l;
-      start = λ j. man (N * halves (timed l)) (pos (f j) -ℤ pos (N * timed l .red j));
-      length = λ j. N * (2 * timed l .red j);
-      lag = lag;
+      unit = N;
+      outbound = λ f. wayThrough (inUnits N (timed l)) f out;
+      inbound = λ f. wayThrough (inUnits N (timed l)) f (λ j. back (signals l - 1) - back j);
     }
-
--- outbound, counted at signal 1 (01, 'Measuring')
-abbrev pub exactOutbound : Lists → ℕ → (ℕ → ℕ) → Way
-exactOutbound l N f = exactWay l N f (exactTo N (l .distances) (l .outbound))
-
--- inbound, counted at signal n (01, 'Measuring')
-abbrev pub exactInbound : Lists → ℕ → (ℕ → ℕ) → Way
-exactInbound l N f =
-    exactWay l N f
-    (λ j. exactTo N (l .distances) (l .inbound) (signals l - 1) - exactTo N (l .distances) (l .inbound) j)

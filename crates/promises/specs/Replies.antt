@@ -1,42 +1,107 @@
--- What is promised of a call's reply at rounded times: of the numbers in a reply with code 0, whatever reply its contract allows, and of the offsets that the call leaves in the lent list.
-use Prim.Native.Nat.{ℕ, _+_, _-_, _≤_, _<_}
+-- What is promised of a call's reply: of the numbers in every reply with code 0 that the call's contract allows, and of the offsets that the call leaves in the lent list. One notion says what a
+-- plan keeps, and it is promised at rounded times with nothing lost and at exact times with m halves lost (demand 3); the equal plan is the published method's own (demand 2); and
+-- `measure` takes the offsets that any plan leaves and finds its widths.
+use Prim.Native.Nat.{ℕ, _+_, _-_, _*_, _≤_, _<_, min}
 use mathlib.Core.Path.{_≡_}
 use mathlib.Core.Bool.{true}
 use mathlib.Core.List.{List}
-use lib.ListN.{length, getD}
-use Rattle.circle.specs.Method.{Timed, B, reference, offset, equalWidth, redEnd, redStart}
-use Rattle.circle.specs.Bands.{clear, width, outboundWay, inboundWay}
+use lib.IntN.{pos, _-ℤ_}
+use lib.ListN.{length, take, getD}
+use Rattle.circle.specs.Man.{man}
+use Rattle.circle.specs.Method.{B, reference, offset, equalWidth, redEnd, redStart}
+use Rattle.circle.specs.Bands.{Way, clear, width}
+use Rattle.road.specs.Times.{linkLength}
 use Rattle.street.specs.Lists.{Lists, signals}
 use Rattle.street.specs.Checks.{planChecks}
 use Rattle.street.specs.Streets.{timed, m}
+use Rattle.street.specs.declared.Verdict.the-variants.{Passed}
 use Rattle.widths.specs.Moved.{shiftOf}
 use Rattle.widths.specs.declared.Request.{Request}
 use Rattle.widths.specs.declared.Request.the-variants.{Equal}
 use Rattle.widths.specs.declared.Shift.{Shift}
+use Rattle.widths.specs.declared.Shift.the-variants.{Unmoved, Outbound, Inbound}
 use Rattle.plans.specs.Answers.{verdictOf, numbersOf}
 use Rattle.plans.specs.Requests.{Requested}
 use Rattle.plans.specs.declared.Answer.{Answer}
-use Rattle.promises.specs.Rounded.{InsideFrom, InsideTo}
-use Rattle.promises.specs.Moved.{Firm}
+use Rattle.plans.specs.declared.Plan.{Plan}
+use Rattle.bands.specs.Measure as bands
+use Rattle.promises.specs.Exact.{Fine, exactLink, Ways, roundedWays, exactWays}
 
--- under offsets f: every departure inside the two named bands is clear, where the outbound one starts at c at the instant `starts` and is v wide, and the inbound one ends there at `ends` and
--- is v′ wide; no measured width is below these, and where they are firm they are the measured ones
-abbrev pub BandsKept : Shift → Timed → (ℕ → ℕ) → ℕ → ℕ → ℕ → ℕ → ℕ → Type 0
-BandsKept shift s f c starts v ends v′ =
-    ((x : ℕ) → InsideFrom (outboundWay s f) c starts v x → clear (outboundWay s f) x ≡ true)
-    × ((y : ℕ) → InsideTo (inboundWay s f) c ends v′ y → clear (inboundWay s f) y ≡ true)
-    × (v ≤ width (outboundWay s f))
-    × (v′ ≤ width (inboundWay s f))
-    × (Firm shift v v′ → (width (outboundWay s f) ≡ v) × (width (inboundWay s f) ≡ v′))
+-- how long after the start of a named band the departure x comes by at c, round the cycle: the band starts there so many halves before a named instant (01, 'Moving width': inside is by
+-- the instant at c)
+abbrev pub intoBand : ℕ → Way → ℕ → ℕ → ℕ → ℕ → ℕ
+intoBand N w c instant before x = man (w .around) (pos (x + N * before + w .lag c) -ℤ pos (N * instant))
 
--- of every request: so the equal plan's widths are the measured ones whatever the sign of B
-abbrev pub ReplyBands : Type 0
-ReplyBands =
-    (request : Request) (l : Lists) (entry exit : List ℕ) (r : Answer) → Requested request l entry exit r → numbersOf r .code ≡ 0 →
-    let p = numbersOf r .plan in
-    BandsKept (shiftOf request (timed l)) (timed l) (λ j. getD exit j 0) (p .reference - 1) (p .starts) (p .outbound) (p .ends) (p .inbound)
+-- every departure inside a named band of v halves, at least r halves after its start and more than r before its end, meets no red; with r 0 that is the whole band, and one of width 0
+-- is empty
+abbrev pub InsideClear : ℕ → Way → ℕ → ℕ → ℕ → ℕ → ℕ → Type 0
+InsideClear N w c instant before v r =
+    (x : ℕ) → N * r ≤ intoBand N w c instant before x → intoBand N w c instant before x + N * r < N * v → clear w x ≡ true
 
--- the equal plan is the published method's own (01, 'The equal plan'): the checks of every plan alone judge a call for it, and with code 0 the reply's numbers and the offset of each signal are
+-- two reported widths are firm where nothing was moved, whatever they are, and else where both are above 0
+abbrev pub Firm : Shift → ℕ → ℕ → Type 0
+Firm Unmoved v v′ = Unit
+Firm (Outbound w) v v′ = (1 ≤ v) × (1 ≤ v′)
+Firm (Inbound w) v v′ = (1 ≤ v) × (1 ≤ v′)
+
+-- no offsets, at whatever instants of the unit, do better than a plan of these widths, by what was moved in it: where nothing was, none makes the narrower band wider by more than r halves;
+-- else, where r is 0, none with a band as wide as the favoured one gives more the other way
+abbrev pub NoneBetter : Shift → Ways → ℕ → ℕ → ℕ → Type 0
+NoneBetter Unmoved w v v′ r = (f : ℕ → ℕ) → min (width (w .outbound f)) (width (w .inbound f)) ≤ w .unit * (v + r)
+NoneBetter (Outbound _) w v v′ r = r ≡ 0 → (f : ℕ → ℕ) → w .unit * v ≤ width (w .outbound f) → width (w .inbound f) ≤ w .unit * v′
+NoneBetter (Inbound _) w v v′ r = r ≡ 0 → (f : ℕ → ℕ) → w .unit * v′ ≤ width (w .inbound f) → width (w .outbound f) ≤ w .unit * v
+
+-- what a plan with offsets f, in halves, keeps where at most r halves are lost
+pub record Kept (shift : Shift) (w : Ways) (f : ℕ → ℕ) (p : Plan) (r : ℕ) : Type 0 where
+  -- the named outbound band starts at c at the instant `starts`, the inbound one ends there at `ends`
+  pub outbound-clear : InsideClear (w .unit) (w .outbound (λ j. w .unit * f j)) (p .reference - 1) (p .starts) 0 (p .outbound) r
+  pub inbound-clear : InsideClear (w .unit) (w .inbound (λ j. w .unit * f j)) (p .reference - 1) (p .ends) (p .inbound) (p .inbound) r
+  -- neither band falls short of its reported width by more than r halves
+  pub outbound-short : w .unit * p .outbound ≤ width (w .outbound (λ j. w .unit * f j)) + w .unit * r
+  pub inbound-short : w .unit * p .inbound ≤ width (w .inbound (λ j. w .unit * f j)) + w .unit * r
+  -- with nothing lost, firm widths are the bands' own
+  pub firm-widths :
+      r ≡ 0 → Firm shift (p .outbound) (p .inbound) →
+      (width (w .outbound (λ j. w .unit * f j)) ≡ w .unit * p .outbound) × (width (w .inbound (λ j. w .unit * f j)) ≡ w .unit * p .inbound)
+  pub none-better : NoneBetter shift w (p .outbound) (p .inbound) r
+
+-- a claim about the plan and the lent list of every reply with code 0, whatever was asked for
+abbrev pub OfReplies : (Request → Lists → List ℕ → Plan → Type 0) → Type 0
+OfReplies claim =
+    (request : Request) (l : Lists) (entry exit : List ℕ) (r : Answer) → Requested request l entry exit r → numbersOf r .code ≡ 0 → claim request l exit (numbersOf r .plan)
+
+-- 1. At rounded times nothing is lost (01, 'The equal plan' and 'Moving width')
+abbrev pub KeptRounded : Type 0
+KeptRounded =
+    OfReplies λ request l exit p. (N : ℕ) → 0 < N → Kept (shiftOf request (timed l)) (roundedWays l N) (λ j. getD exit j 0) p 0
+
+-- 2. At exact times, in any unit that is fine for the street, at most m halves, m as the reply has it (demand 3)
+abbrev pub KeptExact : Type 0
+KeptExact =
+    OfReplies λ request l exit p. (N : ℕ) → Fine l N → Kept (shiftOf request (timed l)) (exactWays l N) (λ j. getD exit j 0) p (p .rounded)
+
+-- there is such a unit for every street that the checks pass
+abbrev pub FineExists : Type 0
+FineExists = (l : Lists) (room : ℕ) → planChecks l room ≡ Passed → (N : ℕ) × Fine l N
+
+-- and in it nothing is cut off: on each link the exact time, times the speed, is 20dN, both ways
+abbrev pub NothingLost : Type 0
+NothingLost =
+    (l : Lists) (N : ℕ) → Fine l N → (k : ℕ) → k < signals l - 1 →
+    (exactLink N (l .distances) (l .outbound) k * getD (l .outbound) k 0 ≡ 20 * linkLength (l .distances) k * N)
+    × (exactLink N (l .distances) (l .inbound) k * getD (l .inbound) k 0 ≡ 20 * linkLength (l .distances) k * N)
+
+-- 3. `measure` takes the offsets that a plan leaves, refuses none of them, and finds no width below the reported one; firm ones it finds as reported (01, 'Measuring')
+abbrev pub MeasureAgrees : Type 0
+MeasureAgrees =
+    OfReplies λ request l exit p.
+    let found = bands.numbersOf (bands.measurementOf l (take (signals l) exit)) in
+    (found .code ≡ 0)
+    × (p .outbound ≤ found .outbound .width)
+    × (p .inbound ≤ found .inbound .width)
+    × (Firm (shiftOf request (timed l)) (p .outbound) (p .inbound) → (found .outbound .width ≡ p .outbound) × (found .inbound .width ≡ p .inbound))
+
+-- 4. The equal plan is the published method's own (01, 'The equal plan'): the checks of every plan alone judge a call for it, and with code 0 the reply's numbers and the offset of each signal are
 -- the method's formulas at the reference c, nothing lowered
 abbrev pub EqualIsMethod : Type 0
 EqualIsMethod =

@@ -1,4 +1,4 @@
--- Document 01's rows 1 to 13 and its street A as one table, with what it says of each row: the answer of the row's call and the list that it leaves, and where a row names an exact
+-- Document 01's rows 1 to 13, its street A and its examples of rounding as one table, with what it says of each row: the answer of the row's call and the list that it leaves, and where a row names an exact
 -- best, that some offsets attain it and none exceed it. Each list starts as 7, 7, 7, so that an entry that is not written shows.
 use Prim.Native.Nat.{ℕ}
 use mathlib.Core.Path.{_≡_}
@@ -14,8 +14,9 @@ use Rattle.widths.specs.declared.Request.the-variants.{Equal, Outbound, Inbound
 use Rattle.plans.specs.declared.Answer.{Answer}
 use Rattle.plans.specs.declared.Answer.the-variants.{Planned, Refused}
 use Rattle.plans.specs.Requests.{requestAnswer, requestAfter}
-use Rattle.promises.specs.Exact.{Fine, exactOutbound, exactInbound}
-use Rattle.promises.specs.Rounding.{NoneBeats}
+use Rattle.widths.specs.declared.Shift.the-variants.{Unmoved}
+use Rattle.promises.specs.Exact.{Fine, exactWays}
+use Rattle.promises.specs.Replies.{NoneBetter}
 
 -- the widest narrower band that exact times allow, where a row names it
 pub data Best : Type 0 where
@@ -26,8 +27,8 @@ pub data Best : Type 0 where
 unfoldable pub ExactBest : Lists → Best → Type 0
 ExactBest l unnamed = Unit
 ExactBest l (best-is v) =
-    (Fine l 1 × ((f : ℕ → ℕ) × (width (exactOutbound l 1 f) ≡ v) × (width (exactInbound l 1 f) ≡ v)))
-    × ((N : ℕ) → Fine l N → NoneBeats l N v 0)
+    (Fine l 1 × ((f : ℕ → ℕ) × (width (exactWays l 1 .outbound f) ≡ v) × (width (exactWays l 1 .inbound f) ≡ v)))
+    × ((N : ℕ) → Fine l N → NoneBetter Unmoved (exactWays l N) v v 0)
 
 -- a street and a request, with the answer and the offsets that document 01 gives for them
 pub record Row : Type 0 where
@@ -51,20 +52,17 @@ unfoldable pub All : List Row → Type 0
 All [] = Unit
 All (row ∷ rows) = Holds row × All rows
 
--- two signals with equal reds and a link of some ticks each way, at 1,000 mm/s
+-- two signals with their reds and distances, and the outbound and the inbound speed on the link between them
+unfoldable pub two : ℕ → ℕ → ℕ → ℕ → ℕ → ℕ → ℕ → Lists
+two cycle red red′ at at′ out back =
+    record { cycle = cycle; reds = red ∷ red′ ∷ []; distances = at ∷ at′ ∷ []; outbound = out ∷ []; inbound = back ∷ [] }
+
+-- two signals with equal reds and a link of some mm, at 1,000 mm/s both ways
 unfoldable pub pair : ℕ → ℕ → ℕ → Lists
-pair cycle red length =
-    record {
-      cycle = cycle;
-      reds = red ∷ red ∷ [];
-      distances = 0 ∷ length ∷ [];
-      outbound = 1000 ∷ [];
-      inbound = 1000 ∷ [];
-    }
+pair cycle red length = two cycle red red 0 length 1000 1000
 
 unfoldable pub streetA : Lists
-streetA =
-    record { cycle = 100; reds = 40 ∷ 50 ∷ []; distances = 0 ∷ 30000 ∷ []; outbound = 10000 ∷ []; inbound = 15000 ∷ [] }
+streetA = two 100 40 50 0 30000 10000 15000
 
 -- a plan by its reference, B, outbound and inbound width, m and the named bands' instants, in that order
 unfoldable pub plan : ℕ → ℤ → ℕ → ℕ → ℕ → ℕ → ℕ → Answer
@@ -96,6 +94,15 @@ equal-rows =
     ∷ row streetA Equal (plan 1 (pos 60) 60 60 0 40 160) (0 ∷ 10 ∷ 7 ∷ [])
     ∷ []
 
+-- travel times to the nearest tick, one half up, each link by itself: 49 mm at 1,000 mm/s take no tick, 50 mm (row 9) take 1, and two links of 50 mm take 2
+unfoldable pub rounding-rows : List Row
+rounding-rows =
+    row (pair 10 5 49) Equal (plan 1 (pos 10) 10 10 1 5 15) (0 ∷ 0 ∷ 7 ∷ [])
+    ∷ row
+        (record { cycle = 10; reds = 5 ∷ 5 ∷ 5 ∷ []; distances = 0 ∷ 50 ∷ 100 ∷ []; outbound = 1000 ∷ 1000 ∷ []; inbound = 1000 ∷ 1000 ∷ [] })
+        Equal (plan 1 (pos 6) 6 6 2 5 15) (0 ∷ 0 ∷ 0 ∷ [])
+    ∷ []
+
 -- rows 6 to 8 and 10
 unfoldable pub width-rows : List Row
 width-rows =
@@ -122,4 +129,4 @@ platoon-rows =
     ∷ []
 
 unfoldable pub rows : List Row
-rows = equal-rows ++ (width-rows ++ platoon-rows)
+rows = equal-rows ++ (rounding-rows ++ (width-rows ++ platoon-rows))

@@ -1,30 +1,28 @@
--- Document 01's rows 2 and 3 and its street A as instances of the promises: the bands that are there under the plan's offsets are as wide as the row says. The checks pass and the
--- reported width is the row's, by computation; that it is the measured width is the theorem. Assumes nothing.
+-- Document 01's rows 2 and 3 and its street A as instances of the promises: `measure` finds the bands under the offsets that the row's call leaves as wide as the row says. The reply and
+-- the list are the row's, by computation; that the width is the measured one is the theorem. Assumes nothing.
 use Prim.Native.Nat.{ℕ}
-use mathlib.Core.Path.{_≡_, refl, _∙_}
-use Rattle.circle.specs.Over.{firstBelow, sumBelow, leastBelow, greatestBelow}
-use Rattle.circle.specs.Method.{u, pairWidth, b, B, reference, offset, equalWidth}
-use Rattle.circle.specs.Bands.{width, outboundWay, inboundWay}
-use Rattle.road.specs.Limits.{maxSignals}
+use mathlib.Core.Path.{_≡_, refl}
+use mathlib.Core.List.{List, [], _∷_}
+use Rattle.circle.specs.Over.{firstBelow, sumBelow, leastBelow, greatestBelow, listBelow}
+use Rattle.circle.specs.Method.{u, pairWidth, b, B, reference, phase, offset, equalWidth, redEnd, redStart}
+use Rattle.circle.specs.Moved.{lowered}
 use Rattle.street.specs.Lists.{Lists}
 use Rattle.street.specs.Checks.{countCheck, roomCheck, cycleCheck, redCheck, distanceCheck, speedCheck, planChecks}
-use Rattle.street.specs.Streets.{timed}
-use Rattle.street.specs.declared.Verdict.the-variants.{Passed}
-use Rattle.promises.proofs.Rounded.Equal.{measured}
-use Rattle.promises.specs.Rows.{pair, streetA}
+use Rattle.widths.specs.declared.Request.the-variants.{Equal}
+use Rattle.bands.specs.Measure.{numbersOf, measurementOf}
+use Rattle.promises.specs.Rows.{two, pair, streetA, lent}
+use Rattle.promises.proofs.Replies.Measures.{measure-agrees}
 
--- both bands of a street's equal plan have a width
-pub BothWide : Lists → ℕ → Type 0
-BothWide l v =
-    let s = timed l in
-    let f = offset s (reference s) in
-    (width (outboundWay s f) ≡ v) × (width (inboundWay s f) ≡ v)
+-- both measured bands under some offsets have a width
+abbrev pub BothWide : Lists → List ℕ → ℕ → Type 0
+BothWide l offsets v =
+    let found = numbersOf (measurementOf l offsets) in
+    (found .outbound .width ≡ v) × (found .inbound .width ≡ v)
 
-from-measured : (l : Lists) (v : ℕ) → planChecks l maxSignals ≡ Passed → equalWidth (timed l) ≡ v → BothWide l v
-unfolding BothWide
-from-measured l v passed e = let m = measured l maxSignals passed in (m .0 ∙ e, m .1 ∙ e)
-
-pub instances : BothWide (pair 600 300 30000) 600 × BothWide (pair 600 300 15000) 300 × BothWide streetA 60
-unfolding pair streetA firstBelow sumBelow leastBelow greatestBelow u pairWidth b B equalWidth countCheck roomCheck cycleCheck redCheck distanceCheck speedCheck planChecks
-instances =
-    (from-measured (pair 600 300 30000) 600 refl refl, from-measured (pair 600 300 15000) 300 refl refl, from-measured streetA 60 refl refl)
+pub instances : BothWide (pair 600 300 30000) (0 ∷ 600 ∷ []) 600 × BothWide (pair 600 300 15000) (0 ∷ 0 ∷ []) 300 × BothWide streetA (0 ∷ 10 ∷ []) 60
+unfolding two pair streetA lent firstBelow sumBelow leastBelow greatestBelow listBelow u pairWidth b B reference phase offset equalWidth redEnd redStart lowered countCheck roomCheck cycleCheck redCheck distanceCheck speedCheck planChecks
+instances = (
+  measure-agrees Equal (pair 600 300 30000) lent _ _ (record { reply = refl; after = refl }) refl .3 tt,
+  measure-agrees Equal (pair 600 300 15000) lent _ _ (record { reply = refl; after = refl }) refl .3 tt,
+  measure-agrees Equal streetA lent _ _ (record { reply = refl; after = refl }) refl .3 tt,
+)

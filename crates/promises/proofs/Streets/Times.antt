@@ -5,8 +5,10 @@ use native.Mathlib.Omega.{arith}
 use lib.IntN.{pos, negℤ, _-ℤ_}
 use Rattle.circle.specs.Over.{sumBelow}
 use Rattle.circle.proofs.Numbers.{sum-more, pos-minus, pos-sub, sub-eq, neg-sub}
+use Rattle.circle.specs.Method.{t, t′}
 use Rattle.road.specs.Times.{linkTicks}
-use Rattle.promises.specs.Rounded.{SignedTimes}
+use Rattle.street.specs.Lists.{Lists}
+use Rattle.street.specs.Streets.{timed}
 
 -- a sum splits at any index
 split : (f : ℕ → ℕ) (i k : ℕ) → sumBelow (i + k) f ≡ sumBelow i f + sumBelow k (λ q. f (i + q))
@@ -28,7 +30,13 @@ backwards f i k =
     ∙ sym (neg-sub (sumBelow (i + k) f) (sumBelow i f))
     ∙ ap negℤ (sym (pos-minus (sumBelow (i + k) f) (sumBelow i f)) ∙ forwards f i k)
 
-pub signed-times : SignedTimes
+-- between signals i and i + k outbound the sum of the link times between them, backwards its negative; and inbound the other way round
+pub signed-times :
+    (l : Lists) (i k : ℕ) →
+    (t (timed l) i (i + k) ≡ pos (sumBelow k (λ q. linkTicks (l .distances) (l .outbound) (i + q))))
+    × (t (timed l) (i + k) i ≡ negℤ (pos (sumBelow k (λ q. linkTicks (l .distances) (l .outbound) (i + q)))))
+    × (t′ (timed l) i (i + k) ≡ negℤ (pos (sumBelow k (λ q. linkTicks (l .distances) (l .inbound) (i + q)))))
+    × (t′ (timed l) (i + k) i ≡ pos (sumBelow k (λ q. linkTicks (l .distances) (l .inbound) (i + q))))
 signed-times l i k = (
   forwards (linkTicks (l .distances) (l .outbound)) i k,
   backwards (linkTicks (l .distances) (l .outbound)) i k,

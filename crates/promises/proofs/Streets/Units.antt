@@ -9,7 +9,7 @@ use lib.ListN.{getD}
 use Rattle.road.specs.Times.{linkLength}
 use Rattle.street.specs.Lists.{Lists, signals}
 use Rattle.street.proofs.Passed.{clear}
-use Rattle.promises.specs.Rounding.{FineExists, NothingLost}
+use Rattle.promises.specs.Replies.{FineExists, NothingLost}
 
 -- the product of f over the indices below n
 product : ℕ → (ℕ → ℕ) → ℕ
@@ -67,6 +67,6 @@ fine-exists l room passed =
     )
 
 pub nothing-lost : NothingLost
-nothing-lost l room N passed fine k h =
+nothing-lost l N fine k h =
     let times = 20 * linkLength (l .distances) k * N in
     (omega (arith, mod-add-div' times (getD (l .outbound) k 0), fine .outbound k h), omega (arith, mod-add-div' times (getD (l .inbound) k 0), fine .inbound k h))

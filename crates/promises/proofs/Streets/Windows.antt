@@ -2,7 +2,7 @@
 -- dropped over the links before a signal together come to at most N for each mark. The exact and the rounded time to a signal differ by these two sums, so both lists of lags, from
 -- the first signal on and up to the last one, stay in a window of N times the marks. Assumes nothing.
 use Prim.Native.Nat.{ℕ, zero, suc, _+_, _-_, _*_, _≤_, _<_}
-use mathlib.Core.Path.{_≡_}
+use mathlib.Core.Path.{_≡_, refl}
 use mathlib.Core.Bool.{Bool, cond}
 use native.Mathlib.Omega.{arith}
 use native.Mathlib.Nat.{mul-le-mul-left}
@@ -16,6 +16,10 @@ pub record Window (n most : ℕ) (rounded exact : ℕ → ℕ) : Type 0 where
   pub δ : ℕ → ℕ
   pub each : (j : ℕ) → j ≤ n → exact j + moved ≡ rounded j + δ j
   pub within : (j : ℕ) → j ≤ n → δ j ≤ most
+
+-- lags as they are stay in a window of no length
+pub unmoved : (n : ℕ) (lag : ℕ → ℕ) (most : ℕ) → Window n most lag lag
+unmoved n lag most = record { moved = 0; δ = λ j. 0; each = λ j l. refl; within = λ j l. omega arith }
 
 -- over links whose two times R and X differ by at most N where a test marks them, and by nothing elsewhere
 module _ (N n : ℕ) (R X : ℕ → ℕ) (test : ℕ → Bool) (each : (k : ℕ) → k < n → apart (2 * (N * R k)) (X k) ≤ N * cond (test k) 1 0) where

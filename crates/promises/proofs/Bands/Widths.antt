@@ -1,18 +1,14 @@
--- From the working form of stretches to measured widths: a width that some stretch has and none exceeds is the measured one, and a departure less than that width behind a stretch's
--- start meets no red. Each is said of any lags through a street, so of both directions. Assumes nothing.
-use Prim.Native.Nat.{ℕ, _+_, _-_, _≤_, _<_}
-use mathlib.Core.Path.{_≡_, sym, ap, _∙_, subst}
-use mathlib.Core.Bool.{true}
+-- From the working form of stretches to measured widths: a width that some stretch has and none exceeds is the measured one. Each is said of any lags through a street, so of both
+-- directions. Assumes nothing.
+use Prim.Native.Nat.{ℕ, _≤_, _<_}
+use mathlib.Core.Path.{_≡_}
 use native.Mathlib.Omega.{arith}
 use native.Mathlib.Nat.{le-antisymm}
-use lib.IntN.{pos, _-ℤ_}
 use Rattle.circle.specs.Method.{Timed, halves, reference, redEnd, redStart}
-use Rattle.circle.specs.Bands.{Way, clear, stretch, width, outboundWay, inboundWay}
-use Rattle.circle.proofs.Numbers.{Turns, man-lt, man-turns, all-each}
-use Rattle.circle.proofs.Stretches.{Passes, where-some, along, Proper, passes-stretch, since-turns, width-ge, band-starts, part}
+use Rattle.circle.specs.Bands.{Way, width, outboundWay, inboundWay}
+use Rattle.circle.proofs.Stretches.{Passes, where-some, along, Proper, width-ge, band-starts}
 use Rattle.circle.proofs.Formulas.{Fit}
 use Rattle.circle.proofs.Bands.{Named, Bands, meets}
-use Rattle.promises.specs.Rounded.{behind}
 
 -- both ways through a street, under any lags
 pub proper-way : {lag : ℕ → ℕ} (s : Timed) (f : ℕ → ℕ) → Fit s → Proper (along (outboundWay s f) lag)
@@ -31,28 +27,6 @@ module _ (w : Way) (proper : Proper w) where
   -- a stretch is no longer than the band
   pub width-least : (x k : ℕ) → Passes w x k → k ≤ width w
   width-least x k ok = width-ge w proper x k ok
-
-  -- every departure within a stretch meets no red
-  pub inside-clear : (x₀ k v x : ℕ) → Passes w x₀ v → k < v → Turns (w .around) x (x₀ + k) → clear w x ≡ true
-  unfolding stretch
-  inside-clear x₀ k v x ok l turns =
-      let one : v - (v - 1) ≡ 1 = omega arith in
-      let there : Passes w (x₀ + k) 1 = subst (Passes w (x₀ + k)) one (part w k (v - 1) x₀ v (omega arith) (omega arith) ok) in
-      let here : Passes w x 1 =
-      record { most = there .most; each = λ j lj red. omega (arith, there .each j lj red, since-turns w proper x (x₀ + k) j turns) } in
-      let zero-more : x + 0 ≡ x = omega arith in
-      ap (clear w) (sym zero-more) ∙ all-each 1 (λ i. clear w (x + i)) (passes-stretch w x 1 here) 0 (omega arith)
-
-  -- and so every departure in a named band: less than v behind the instant that names it, once a later
-  pub inside : (c instant a v x : ℕ) → Named w c instant a v → behind w c instant (x + a) < v → clear w x ≡ true
-  inside c instant a v x named l =
-      let k = behind w c instant (x + a) in
-      let below = man-lt (w .around) (pos (x + a + w .lag c) -ℤ pos instant) (proper .turns) in
-      let turns = man-turns (w .around) (x + a + w .lag c) instant (proper .turns) in
-      inside-clear (x + (w .around - k)) k v x
-      (named .passes (x + (w .around - k)) (record { p = turns .q; q = turns .p + 1; eq = omega (arith, turns .eq) }) (omega arith))
-      l
-      (record { p = 1; q = 0; eq = omega arith })
 
 module _ (s : Timed) (ok : Fit s) (f : ℕ → ℕ) {lag : ℕ → ℕ} where
   -- no stretch through a street is longer than the band, and no named band wider

@@ -1,0 +1,138 @@
+-- What every plan keeps. Offsets that agree with a plan's at every signal have its named bands, as wide as it reports; so along lags near the rounded ones they keep all that a plan promises,
+-- with the plan's own numbers. A plan that moves nothing lowers every offset by 0, so that it is the equal plan; and what platoons ask for is in range. Assumes nothing.
+use Prim.Native.Nat.{ℕ, _+_, _-_, _*_, _≤_, _<_}
+use mathlib.Core.Path.{_≡_, sym, ap, ap₂, subst, _∙_}
+use mathlib.Core.Bool.{true, cond}
+use native.Mathlib.Omega.{arith}
+use native.Mathlib.Decide.{decLt, ℕ-discrete}
+use lib.Dec.{ltb}
+use borrow.Author.Tests.{lt-ltb, le-ltb, eq-eqb, ne-eqb}
+use Rattle.circle.specs.Method.{Timed, reference, phase, offset, equalWidth, redEnd, redStart}
+use Rattle.circle.specs.Bands.{width, outboundWay, inboundWay}
+use Rattle.circle.specs.Moved.{inRange, otherWidth, platoonWidth}
+use Rattle.circle.proofs.Formulas.{Fit, asked, reference-lt, other-width, platoons-range}
+use Rattle.circle.proofs.Stretches.{Rising, Patterned, offset-patterned}
+use Rattle.circle.proofs.Bands.{Bounded, Bands, equal-bands, outbound-bands, inbound-bands, neither, fill}
+use Rattle.street.specs.Lists.{Lists}
+use Rattle.street.specs.Checks.{planChecks}
+use Rattle.street.specs.Streets.{m, timed}
+use Rattle.street.specs.declared.Verdict.the-variants.{Passed}
+use Rattle.widths.specs.Moved.{platoonShift, outboundWidth, inboundWidth}
+use Rattle.widths.specs.declared.Shift.{Shift}
+use Rattle.widths.specs.declared.Shift.the-variants.{Unmoved, Outbound, Inbound}
+use Rattle.offsets.specs.Moved.{movedOffset}
+use Rattle.offsets.proofs.MovedLaws.{unmoved-offset}
+use Rattle.plans.specs.Requests.{movedPlan}
+use Rattle.promises.specs.Replies.{InsideClear, Firm, NoneBetter, Kept}
+use Rattle.promises.proofs.Streets.Passing.{fit, bounded, rising}
+use Rattle.promises.proofs.Streets.Directions.{wayIn, Near, waysBy}
+use Rattle.promises.proofs.Bands.Widths.{NoneLonger}
+use Rattle.promises.proofs.Bands.Agreed.{bands-same, pattern-same}
+use Rattle.promises.proofs.Kept.Bounds.{none-wider, short-out, short-back, clear-out, clear-back, equal-filled, rest, filled}
+
+-- a shift to a width in range; the equal plan asks for none
+abbrev pub InRange : Timed → Shift → Type 0
+InRange s Unmoved = Unit
+InRange s (Outbound w) = inRange s w ≡ true
+InRange s (Inbound w) = inRange s w ≡ true
+
+-- offsets g that are a plan's at every signal
+abbrev pub Follows : Timed → Shift → (ℕ → ℕ) → Type 0
+Follows s shift g = (j : ℕ) → j < s .signals → g j ≡ movedOffset shift s j
+
+module _ (s : Timed) (ok : Fit s) (rise : Rising s) where
+  module _ (g : ℕ → ℕ) where
+    -- where nothing is moved they are the method's own
+    own-offset : Follows s Unmoved g → (j : ℕ) → j < s .signals → g j ≡ offset s (reference s) j
+    own-offset same j l = same j l ∙ unmoved-offset s j (ok .turns)
+
+    equal-pattern : Follows s Unmoved g → Patterned s (reference s) (phase s (reference s)) g
+    equal-pattern same =
+        let c = reference s in
+        pattern-same s (offset s c) g (own-offset same) c (phase s c) (offset-patterned s c (omega (arith, ok .turns)))
+
+    -- such offsets have the plan's named bands
+    pub plan-bands : (shift : Shift) → Follows s shift g → InRange s shift → Bands s g (outboundWidth shift s) (inboundWidth shift s)
+    plan-bands Unmoved same range =
+        bands-same s (offset s (reference s)) g (own-offset same) (ok .some) (equalWidth s) (equalWidth s) (equal-bands s ok rise)
+    plan-bands (Outbound w) same range =
+        bands-same s (movedOffset (Outbound w) s) g same (ok .some) w (otherWidth s w) (outbound-bands s ok rise w range)
+    plan-bands (Inbound w) same range =
+        bands-same s (movedOffset (Inbound w) s) g same (ok .some) (otherWidth s w) w (inbound-bands s ok rise w range)
+
+    -- and no stretch in halves is longer than its firm widths: two that are both above 0 make up 2B
+    pub firm-most :
+        Bounded s → (shift : Shift) → Follows s shift g → InRange s shift → Firm shift (outboundWidth shift s) (inboundWidth shift s) →
+        NoneLonger s g (outboundWidth shift s) (inboundWidth shift s)
+    firm-most two Unmoved same range firm = neither s ok two rise (reference s) (phase s (reference s)) g (equal-pattern same)
+    firm-most two (Outbound w) same range (p, q) =
+        let (out, back) = fill s ok two rise g w (otherWidth s w) p q (omega (arith, other-width s ok w)) (plan-bands (Outbound w) same range) in
+        (out .most, back .most)
+    firm-most two (Inbound w) same range (p, q) =
+        let (out, back) = fill s ok two rise g (otherWidth s w) w p q (omega (arith, other-width s ok w)) (plan-bands (Inbound w) same range) in
+        (out .most, back .most)
+
+  -- what platoons ask for is in range, so code 9 never comes from them, and what is promised of a shift in range is promised of platoon plans
+  pub platoons-in-range : (P Q : ℕ) → InRange s (platoonShift s P Q)
+  unfolding platoonShift
+  platoons-in-range P Q = go (ℕ-discrete P Q) (decLt Q P)
+    where
+      go : Dec (P ≡ Q) → Dec (Q < P) → InRange s (platoonShift s P Q)
+      go (yes e) d = subst (InRange s) (sym (ap (λ t. cond t Unmoved (cond (ltb Q P) (Outbound (platoonWidth s P (P + Q))) (Inbound (platoonWidth s Q (P + Q))))) (eq-eqb P Q e))) tt
+      go (no n) (yes l) =
+          subst (InRange s)
+          (sym (ap₂ (λ t u. cond t Unmoved (cond u (Outbound (platoonWidth s P (P + Q))) (Inbound (platoonWidth s Q (P + Q))))) (ne-eqb P Q n) (lt-ltb Q P l)))
+          (platoons-range s ok P (P + Q) (omega arith) (omega arith))
+      go (no n) (no m) =
+          let l : P ≤ Q = omega arith in
+          let k : P < Q = omega arith in
+          subst (InRange s)
+          (sym (ap₂ (λ t u. cond t Unmoved (cond u (Outbound (platoonWidth s P (P + Q))) (Inbound (platoonWidth s Q (P + Q))))) (ne-eqb P Q n) (le-ltb Q P l)))
+          (platoons-range s ok Q (P + Q) (omega arith) (omega arith))
+
+module _ (l : Lists) (room : ℕ) (passed : planChecks l room ≡ Passed) (N r : ℕ) {out back : ℕ → ℕ} (near : Near l N r out back) where
+  -- no offsets do better than a shift in range
+  none-better : (shift : Shift) → InRange (timed l) shift → NoneBetter shift (waysBy l N out back) (outboundWidth shift (timed l)) (inboundWidth shift (timed l)) r
+  none-better Unmoved range = none-wider l room passed N r near
+  none-better (Outbound w) range = λ none f. rest l room passed N r near none w (asked (timed l) (fit l room passed) w range .some) f .0
+  none-better (Inbound w) range = λ none f. rest l room passed N r near none w (asked (timed l) (fit l room passed) w range .some) f .1
+
+  -- with nothing lost, firm widths are the bands' own
+  firm-widths :
+      r ≡ 0 → (g : ℕ → ℕ) (shift : Shift) → Follows (timed l) shift g → InRange (timed l) shift → Firm shift (outboundWidth shift (timed l)) (inboundWidth shift (timed l)) →
+      (width (wayIn l N (λ j. N * g j) out) ≡ N * outboundWidth shift (timed l)) × (width (wayIn l N (λ j. N * g j) back) ≡ N * inboundWidth shift (timed l))
+  firm-widths none g Unmoved same range firm =
+      let s = timed l in
+      let ok = fit l room passed in
+      let rise = rising l room passed in
+      equal-filled l room passed N r near none g (equal-pattern s ok rise g same) (plan-bands s ok rise g Unmoved same range)
+  firm-widths none g (Outbound w) same range (p, q) =
+      let s = timed l in
+      let ok = fit l room passed in
+      filled l room passed N r near none g w (otherWidth s w) p q (omega (arith, other-width s ok w)) (plan-bands s ok (rising l room passed) g (Outbound w) same range)
+  firm-widths none g (Inbound w) same range (p, q) =
+      let s = timed l in
+      let ok = fit l room passed in
+      filled l room passed N r near none g (otherWidth s w) w p q (omega (arith, other-width s ok w)) (plan-bands s ok (rising l room passed) g (Inbound w) same range)
+
+  -- all that a plan keeps, under offsets that follow it: the reference is counted from 1 in its numbers, and its red is where the offsets have it
+  pub plan-keeps : (shift : Shift) (g : ℕ → ℕ) → Follows (timed l) shift g → InRange (timed l) shift → Kept shift (waysBy l N out back) g (movedPlan shift (timed l) (m l)) r
+  plan-keeps shift g same range =
+      let s = timed l in
+      let c = reference s in
+      let ok = fit l room passed in
+      let v = outboundWidth shift s in
+      let v′ = inboundWidth shift s in
+      let named = plan-bands s ok (rising l room passed) g shift same range in
+      let own = same c (reference-lt s (ok .some)) in
+      let from-1 : c ≡ c + 1 - 1 = omega arith in
+      let to = wayIn l N (λ j. N * g j) out in
+      let fro = wayIn l N (λ j. N * g j) back in
+      record {
+        outbound-clear = subst (λ (k : ℕ). InsideClear N to k (redEnd s c (movedOffset shift s c)) 0 v r) from-1 (subst (λ (z : ℕ). InsideClear N to c (redEnd s c z) 0 v r) own (clear-out l room passed N r near g v v′ named));
+        inbound-clear = subst (λ (k : ℕ). InsideClear N fro k (redStart s c (movedOffset shift s c)) v′ v′ r) from-1 (subst (λ (z : ℕ). InsideClear N fro c (redStart s c z) v′ v′ r) own (clear-back l room passed N r near g v v′ named));
+        outbound-short = short-out l room passed N r near g v v′ named;
+        inbound-short = short-back l room passed N r near g v v′ named;
+        firm-widths = λ none. firm-widths none g shift same range;
+        none-better = none-better shift range;
+      }

@@ -1,0 +1,67 @@
+-- The measure of the offsets that a plan leaves: they are instants of the cycle, so that no check refuses them, and the widths found are those of the plan's named bands, or more. The offsets enter
+-- through the lent list's first entries. Assumes nothing.
+use Prim.Native.Nat.{ℕ, _*_, _≤_, _<_}
+use mathlib.Core.Path.{_≡_, refl, sym, ap, ap₂, subst, _∙_}
+use mathlib.Core.List.{List}
+use native.Mathlib.Omega.{arith}
+use lib.ListN.{length, take, getD}
+use lib.Seq.{getD-take, length-take-le}
+use borrow.Author.Tests.{lt-leb}
+use Rattle.circle.specs.Method.{halves}
+use Rattle.circle.specs.Bands.{width, outboundWay, inboundWay}
+use Rattle.circle.proofs.Numbers.{first-nowhere}
+use Rattle.street.specs.Lists.{Lists, signals}
+use Rattle.street.specs.Checks.{planChecks, orNext, faultAt}
+use Rattle.street.specs.Streets.{timed}
+use Rattle.street.specs.declared.Code.the-variants.{Offset}
+use Rattle.street.specs.declared.Verdict.the-variants.{Passed}
+use Rattle.street.proofs.Passed.{enough-room}
+use Rattle.widths.specs.Moved.{shiftOf, outboundWidth, inboundWidth}
+use Rattle.widths.specs.declared.Shift.{Shift}
+use Rattle.offsets.specs.Moved.{movedOffset}
+use Rattle.plans.proofs.Unique.{offsets-below}
+use Rattle.bands.specs.Measure.{badOffset, offsetCheck, measureChecks, measuredOf, foundOr, measurementOf, numbersOf}
+use Rattle.bands.proofs.CheckLaws.{checks-full}
+use Rattle.promises.specs.Replies.{Firm, MeasureAgrees}
+use Rattle.promises.proofs.Streets.Passing.{fit, bounded, rising}
+use Rattle.promises.proofs.Bands.Widths.{bands-least, bands-measured}
+use Rattle.promises.proofs.Kept.{Follows, firm-most, plan-bands}
+use Rattle.promises.proofs.Replies.Calls.{reply-told}
+
+module _ (l : Lists) (room : ℕ) (passed : planChecks l room ≡ Passed) (shift : Shift) (offsets : List ℕ) (count : length offsets ≡ signals l) (same : Follows (timed l) shift (λ j. getD offsets j 0)) where
+  -- a plan's offsets are on the cycle, so their check passes
+  in-cycle : offsetCheck (l .cycle) offsets ≡ Passed
+  unfolding offsetCheck
+  in-cycle =
+      ap (faultAt Offset)
+      (first-nowhere (length offsets) (badOffset (l .cycle) offsets)
+      (λ j h. lt-leb (2 * l .cycle) (getD offsets j 0) (omega (arith, offsets-below l room passed shift j, same j (omega arith)))))
+
+  pub accepted : measureChecks l offsets ≡ Passed
+  accepted = checks-full l offsets count ∙ ap₂ orNext (enough-room l room (signals l) passed (omega arith)) in-cycle
+
+pub measure-agrees : MeasureAgrees
+measure-agrees asked l entry exit r call code =
+    let s = timed l in
+    let n = signals l in
+    let room = length entry in
+    let shift = shiftOf asked s in
+    let told = reply-told asked l entry exit r call code in
+    let passed = told .passed in
+    let ok = fit l room passed in
+    let rise = rising l room passed in
+    let v = outboundWidth shift s in
+    let v′ = inboundWidth shift s in
+    let offsets = take n exit in
+    let f : ℕ → ℕ = λ j. getD offsets j 0 in
+    let same : Follows s shift f = λ j h. getD-take n exit j 0 h ∙ told .same j h in
+    let named = plan-bands s ok rise f shift same (told .range) in
+    let (least, least′) = bands-least s ok f v v′ named in
+    let all = accepted l room passed shift offsets (length-take-le n exit (told .long)) same in
+    let found : numbersOf (foundOr Passed (measuredOf s offsets)) ≡ numbersOf (measurementOf l offsets) = ap (λ c. numbersOf (foundOr c (measuredOf s offsets))) (sym all) in
+    subst (λ p. (numbersOf (measurementOf l offsets) .code ≡ 0)
+        × (p .outbound ≤ numbersOf (measurementOf l offsets) .outbound .width)
+        × (p .inbound ≤ numbersOf (measurementOf l offsets) .inbound .width)
+        × (Firm shift (p .outbound) (p .inbound) → (numbersOf (measurementOf l offsets) .outbound .width ≡ p .outbound) × (numbersOf (measurementOf l offsets) .inbound .width ≡ p .inbound))) (told .numbers)
+    (subst (λ m. (m .code ≡ 0) × (v ≤ m .outbound .width) × (v′ ≤ m .inbound .width) × (Firm shift v v′ → (m .outbound .width ≡ v) × (m .inbound .width ≡ v′))) found
+    (refl, least, least′, λ firm. bands-measured s ok f v v′ named (firm-most s ok rise f (bounded l room passed) shift same (told .range) firm)))
