@@ -1,6 +1,6 @@
 -- Laws of stretches, and here those that other crates cite: the working form of a stretch, the longest one from an instant, the candidates for a band's start, and how a stretch fares
 -- where reds or lags move, or where the way is mirrored.
-pub use Rattle.circle.proofs.Stretches.Arcs.{Passes, since, where-some}
+pub use Rattle.circle.proofs.Stretches.Arcs.{Passes, Spans, since, spans, where-some}
 pub use Rattle.circle.proofs.Stretches.Since.{Rising, Stops, along}
 pub use Rattle.circle.proofs.Stretches.Reflection.{Patterned, likes, offset-patterned, offset-turns}
 pub use Rattle.circle.proofs.Stretches.Perturbation.{lags-back, lags-passes, part}

@@ -32,7 +32,7 @@ module _ (l : Lists) (room : ℕ) (passed : planChecks l room ≡ Passed) where
       let ok = fit l room passed in
       let (x, out) = width-passes (outboundWay s f) (proper-way s f ok) p in
       let (y, back) = width-passes (inboundWay s f) (proper-way s f ok) q in
-      bound-signed s ok (bounded l room passed) f x y _ _ (omega arith) out back
+      bound-signed s ok (bounded l room passed) f x y _ _ out back
 
   pub mirrored :
       (c : ℕ) (e f : ℕ → ℕ) → let s = timed l in

@@ -38,12 +38,6 @@ abbrev pub InsideClear : ℕ → Way → ℕ → ℕ → ℕ → ℕ → ℕ →
 InsideClear N w c instant before v r =
     (x : ℕ) → N * r ≤ intoBand N w c instant before x → intoBand N w c instant before x + N * r < N * v → clear w x ≡ true
 
--- two reported widths are firm where nothing was moved, whatever they are, and else where both are above 0
-abbrev pub Firm : Shift → ℕ → ℕ → Type 0
-Firm Unmoved v v′ = Unit
-Firm (Outbound w) v v′ = (1 ≤ v) × (1 ≤ v′)
-Firm (Inbound w) v v′ = (1 ≤ v) × (1 ≤ v′)
-
 -- no offsets, at whatever instants of the unit, do better than a plan of these widths, by what was moved in it: where nothing was, none makes the narrower band wider by more than r halves;
 -- else, where r is 0, none with a band as wide as the favoured one gives more the other way
 abbrev pub NoneBetter : Shift → Ways → ℕ → ℕ → ℕ → Type 0
@@ -59,10 +53,8 @@ pub record Kept (shift : Shift) (w : Ways) (f : ℕ → ℕ) (p : Plan) (r : ℕ
   -- neither band falls short of its reported width by more than r halves
   pub outbound-short : w .unit * p .outbound ≤ width (w .outbound (λ j. w .unit * f j)) + w .unit * r
   pub inbound-short : w .unit * p .inbound ≤ width (w .inbound (λ j. w .unit * f j)) + w .unit * r
-  -- with nothing lost, firm widths are the bands' own
-  pub firm-widths :
-      r ≡ 0 → Firm shift (p .outbound) (p .inbound) →
-      (width (w .outbound (λ j. w .unit * f j)) ≡ w .unit * p .outbound) × (width (w .inbound (λ j. w .unit * f j)) ≡ w .unit * p .inbound)
+  -- with nothing lost they are the bands' own
+  pub widths : r ≡ 0 → (width (w .outbound (λ j. w .unit * f j)) ≡ w .unit * p .outbound) × (width (w .inbound (λ j. w .unit * f j)) ≡ w .unit * p .inbound)
   pub none-better : NoneBetter shift w (p .outbound) (p .inbound) r
 
 -- a claim about the plan and the lent list of every reply with code 0, whatever was asked for
@@ -91,15 +83,12 @@ NothingLost =
     (exactLink N (l .distances) (l .outbound) k * getD (l .outbound) k 0 ≡ 20 * linkLength (l .distances) k * N)
     × (exactLink N (l .distances) (l .inbound) k * getD (l .inbound) k 0 ≡ 20 * linkLength (l .distances) k * N)
 
--- 3. `measure` takes the offsets that a plan leaves, refuses none of them, and finds no width below the reported one; firm ones it finds as reported (01, 'Measuring')
+-- 3. `measure` takes the offsets that a plan leaves, refuses none of them, and finds both widths as reported (01, 'Measuring')
 abbrev pub MeasureAgrees : Type 0
 MeasureAgrees =
     OfReplies λ request l exit p.
     let found = bands.numbersOf (bands.measurementOf l (take (signals l) exit)) in
-    (found .code ≡ 0)
-    × (p .outbound ≤ found .outbound .width)
-    × (p .inbound ≤ found .inbound .width)
-    × (Firm (shiftOf request (timed l)) (p .outbound) (p .inbound) → (found .outbound .width ≡ p .outbound) × (found .inbound .width ≡ p .inbound))
+    (found .code ≡ 0) × (found .outbound .width ≡ p .outbound) × (found .inbound .width ≡ p .inbound)
 
 -- 4. The equal plan is the published method's own (01, 'The equal plan'): the checks of every plan alone judge a call for it, and with code 0 the reply's numbers and the offset of each signal are
 -- the method's formulas at the reference c, nothing lowered

@@ -1,6 +1,6 @@
--- No offsets give two bands that together exceed 2B. For a departure each way, let κ(j) be the time since j's red ended outbound plus the time until it starts again
--- inbound. Round the cycle κ(j) - κ(i) is twice u's argument for the pair, so under one of the two phases u(i,j) is H less half that difference. Where i has the least κ
--- of the signals with a red, every pair's width is then at least half of the two bands. Assumes nothing.
+-- No offsets give two bands that together exceed 2B, and none two stretches of signed length that do. For a departure each way, let κ(j) be the time since j's red ended outbound plus the
+-- time until it starts again inbound. Round the cycle κ(j) - κ(i) is twice u's argument for the pair, so under one of the two phases u(i,j) is H less half that difference. Where i has the
+-- least κ of the signals with a red, every pair's width is then at least half of the two stretches. Assumes nothing.
 use Prim.Native.Nat.{ℕ, zero, suc, _+_, _-_, _*_, _/_, _%_, _≤_, _<_}
 use mathlib.Core.Path.{_≡_, ap, ap₂, _∙_}
 use mathlib.Core.Bool.{true}
@@ -18,7 +18,7 @@ use Rattle.circle.proofs.Numbers.Man.{Turns}
 use Rattle.circle.proofs.Numbers.Over.{min-from, max-ge}
 use Rattle.circle.proofs.Formulas.Method.{u-is}
 use Rattle.circle.proofs.Formulas.Raised.{Fit, raised, larger-raised, top, b⁺, B⁺, B-raised}
-use Rattle.circle.proofs.Stretches.Arcs.{since, Passes}
+use Rattle.circle.proofs.Stretches.Arcs.{since, Passes, Spans, spans}
 use Rattle.circle.proofs.Stretches.Since.{Stops, Rising, since-turns}
 
 -- among the indices below n where g is above 0, one with the least f
@@ -99,70 +99,80 @@ phased C k m n c = go (decLt 0 ((c .p + c .q) % 2))
         let e : c .p + c .q ≡ 2 * ((c .p + c .q) / 2) = omega arith in
         inl (record { p = (c .p + c .q) / 2; q = c .q; eq = omega (arith, c .eq, ap (λ (z : ℕ). z * C) e) })
 
--- one pair of signals: half the difference of their κ, round the cycle, is what u subtracts from H, and it leaves room for half of the two bands
-pair : (C a b r y a′ b′ r′ y′ v v′ o x : ℕ) → b + v′ + 2 * r ≤ 2 * C → b′ + v′ + 2 * r′ ≤ 2 * C → a′ + v + 2 * r′ ≤ 2 * C → a + (2 * C - (b + 2 * r)) ≤ a′ + (2 * C - (b′ + 2 * r′)) → Turns (2 * C) (a + o) (b + (x + 2 * y)) → Turns (2 * C) (a′ + o) (b′ + (x + 2 * y′)) → (k : ℕ) × (2 * k + 4 * r′ + (v + v′) ≤ 4 * C) × Turns C (k + (r′ + y)) (r + y′)
-pair C a b r y a′ b′ r′ y′ v v′ o x l l′ m least c d =
+-- one pair of signals: half the difference of their κ, round the cycle, is what u subtracts from H, and it leaves room for half of the two stretches, v - m and v′ - m′ long
+pair :
+    (C a b r y a′ b′ r′ y′ v v′ m m′ o x : ℕ) → b + v′ + 2 * r ≤ 2 * C + m′ → b′ + v′ + 2 * r′ ≤ 2 * C + m′ → a′ + v + 2 * r′ ≤ 2 * C + m →
+    a + (2 * C + m′ - (b + 2 * r)) ≤ a′ + (2 * C + m′ - (b′ + 2 * r′)) → Turns (2 * C) (a + o) (b + (x + 2 * y)) → Turns (2 * C) (a′ + o) (b′ + (x + 2 * y′)) →
+    (k : ℕ) × (2 * k + 4 * r′ + (v + v′) ≤ 4 * C + (m + m′)) × Turns C (k + (r′ + y)) (r + y′)
+pair C a b r y a′ b′ r′ y′ v v′ m m′ o x l l′ k least c d =
     let P : ℕ = r′ + y + (d .p + c .q) * C in
     let Q : ℕ = r + y′ + (d .q + c .p) * C in
     let order : a + b′ + 2 * r′ ≤ a′ + b + 2 * r = omega arith in
     let twice : 2 * Q + (a + b′ + 2 * r′) ≡ a′ + b + 2 * r + 2 * P = omega (arith, c .eq, d .eq) in
     (Q - P, omega arith, record { p = d .p + c .q; q = d .q + c .p; eq = omega arith })
 
--- κ(j): the time since j's red ended, outbound, and the time until it starts again, inbound
-κ : Timed → (ℕ → ℕ) → ℕ → ℕ → ℕ → ℕ
-κ s f x y j = since (outboundWay s f) x j + (2 * s .cycle - (since (inboundWay s f) y j + 2 * s .red j))
+-- κ(j): the time since j's red ended, outbound, and the time until it starts again, inbound, with what an inbound stretch lacks
+κ : Timed → (ℕ → ℕ) → ℕ → ℕ → ℕ → ℕ → ℕ
+κ s f x y m′ j = since (outboundWay s f) x j + (2 * s .cycle + m′ - (since (inboundWay s f) y j + 2 * s .red j))
 
-module _ (s : Timed) (fit : Fit s) (rising : Rising s) (f : ℕ → ℕ) (x y v v′ : ℕ) (some : 1 ≤ v + v′) (out : Passes (outboundWay s f) x v) (back : Passes (inboundWay s f) y v′) where
+module _ (s : Timed) (fit : Fit s) (rising : Rising s) (f : ℕ → ℕ) (x y v v′ m m′ : ℕ) (out : Spans (outboundWay s f) x v m) (back : Spans (inboundWay s f) y v′ m′) where
   apart : (j : ℕ) → j < s .signals → Turns (2 * s .cycle) (since (outboundWay s f) x j + (y + 2 * s .inbound (s .signals - 1))) (since (inboundWay s f) y j + (x + 2 * (s .outbound j + s .inbound j)))
   apart j l =
       let turns : 0 < 2 * s .cycle = omega (arith, fit .turns) in
       both (2 * s .cycle) _ _ _ x y (s .outbound j) (s .inbound j) (s .inbound (s .signals - 1)) (rising j l) (since-turns (outboundWay s f) x j turns) (since-turns (inboundWay s f) y j turns)
 
   -- what k leaves of the pair's width, under the phase that k belongs to
-  wide : (i j e k : ℕ) → 2 * k + 4 * s .red j + (v + v′) ≤ 4 * s .cycle → Turns (2 * s .cycle) (k + (s .red j + s .outbound i + s .inbound i + e)) (s .red i + s .outbound j + s .inbound j) → v + v′ + 2 * halves s ≤ 2 * raised s i j e
-  wide i j e k room turns =
+  wide :
+      (i j e k : ℕ) → m + m′ < v + v′ + 4 * s .red j → 2 * k + 4 * s .red j + (v + v′) ≤ 4 * s .cycle + (m + m′) →
+      Turns (2 * s .cycle) (k + (s .red j + s .outbound i + s .inbound i + e)) (s .red i + s .outbound j + s .inbound j) → v + v′ + 2 * halves s ≤ 2 * raised s i j e + (m + m′)
+  wide i j e k some room turns =
       let same = u-is s i j e k (omega arith) turns in
       omega arith
 
-  reaches : (i j : ℕ) → i < s .signals → j < s .signals → 0 < s .red i → 0 < s .red j → κ s f x y i ≤ κ s f x y j → v + v′ + 2 * halves s ≤ 2 * larger-raised s i j
+  reaches : (i j : ℕ) → i < s .signals → j < s .signals → 0 < s .red i → 0 < s .red j → κ s f x y m′ i ≤ κ s f x y m′ j → v + v′ + 2 * halves s ≤ 2 * larger-raised s i j + (m + m′)
   unfolding κ
-  reaches i j li lj ri rj least =
-      let α = since (outboundWay s f) x in
-      let β = since (inboundWay s f) y in
-      let k = pair (s .cycle) (α i) (β i) (s .red i) (s .outbound i + s .inbound i) (α j) (β j) (s .red j) (s .outbound j + s .inbound j) v v′ (y + 2 * s .inbound (s .signals - 1)) x (back .each i li (omega arith)) (back .each j lj (omega arith)) (out .each j lj (omega arith)) least (apart i li) (apart j lj) in
-      ⊎-elim
-      (λ c. let w = wide i j 0 (k .0) (k .1) c in omega arith)
-      (λ c. let w = wide i j (s .cycle) (k .0) (k .1) c in omega arith)
-      (phased (s .cycle) (k .0) (s .red j + s .outbound i + s .inbound i) (s .red i + s .outbound j + s .inbound j)
-      (record { p = k .2 .p; q = k .2 .q; eq = omega (arith, k .2 .eq) }))
+  reaches i j li lj ri rj least = go (decLt (m + m′) (v + v′ + 4 * s .red j))
+    where
+      go : Dec (m + m′ < v + v′ + 4 * s .red j) → v + v′ + 2 * halves s ≤ 2 * larger-raised s i j + (m + m′)
+      -- two stretches that lack so much leave room whatever u is
+      go (no little) = omega (arith, fit .goes j lj)
+      go (yes some) =
+          let α = since (outboundWay s f) x in
+          let β = since (inboundWay s f) y in
+          let k = pair (s .cycle) (α i) (β i) (s .red i) (s .outbound i + s .inbound i) (α j) (β j) (s .red j) (s .outbound j + s .inbound j) v v′ m m′ (y + 2 * s .inbound (s .signals - 1)) x (back .each i li (omega arith)) (back .each j lj (omega arith)) (out .each j lj (omega arith)) least (apart i li) (apart j lj) in
+          ⊎-elim
+          (λ c. let w = wide i j 0 (k .0) some (k .1) c in omega arith)
+          (λ c. let w = wide i j (s .cycle) (k .0) some (k .1) c in omega arith)
+          (phased (s .cycle) (k .0) (s .red j + s .outbound i + s .inbound i) (s .red i + s .outbound j + s .inbound j)
+          (record { p = k .2 .p; q = k .2 .q; eq = omega (arith, k .2 .eq) }))
 
-  -- some signal with a red has every pair that it forms with a signal with a red at least half as wide as the two bands
-  pub widest : (k : ℕ) → k < s .signals → 0 < s .red k → (i : ℕ) × (i < s .signals) × (0 < s .red i) × ((j : ℕ) → j < s .signals → 0 < s .red j → v + v′ + 2 * halves s ≤ 2 * larger-raised s i j)
+  -- some signal with a red has every pair that it forms with a signal with a red at least half as wide as the two stretches
+  pub widest : (k : ℕ) → k < s .signals → 0 < s .red k → (i : ℕ) × (i < s .signals) × (0 < s .red i) × ((j : ℕ) → j < s .signals → 0 < s .red j → v + v′ + 2 * halves s ≤ 2 * larger-raised s i j + (m + m′))
   widest k l r =
-      let m = least-where (s .signals) (s .red) (κ s f x y) k l r in
-      (m .at, m .below, m .counts, λ j lj rj. reaches (m .at) j (m .below) lj (m .counts) rj (m .least j lj rj))
+      let i = least-where (s .signals) (s .red) (κ s f x y m′) k l r in
+      (i .at, i .below, i .counts, λ j lj rj. reaches (i .at) j (i .below) lj (i .counts) rj (i .least j lj rj))
 
--- any two bands, one each way and under any offsets, raised by two cycles: together at most twice the raised B
+-- any two stretches, one each way and under any offsets, of the signed lengths v - m and v′ - m′: together at most 2B, raised by two cycles
 abbrev pub Bounded : Timed → Type 0
 Bounded s =
-    (f : ℕ → ℕ) (x y v v′ : ℕ) → 1 ≤ v + v′ → Passes (outboundWay s f) x v → Passes (inboundWay s f) y v′ → v + v′ + 2 * halves s ≤ 2 * B⁺ s
+    (f : ℕ → ℕ) (x y v v′ m m′ : ℕ) → Spans (outboundWay s f) x v m → Spans (inboundWay s f) y v′ m′ → v + v′ + 2 * halves s ≤ 2 * B⁺ s + (m + m′)
 
 -- they are so where each signal, every one of which B counts, has a red
 pub bound : (s : Timed) → Fit s → Stops s → Rising s → Bounded s
 unfolding b⁺
-bound s fit stops rising f x y v v′ some out back =
+bound s fit stops rising f x y v v′ m m′ out back =
     let first : 0 < s .signals = fit .some in
-    let (i, l, r, each) = widest s fit rising f x y v v′ some out back 0 first (stops 0 first) in
+    let (i, l, r, each) = widest s fit rising f x y v v′ m m′ out back 0 first (stops 0 first) in
     let most = max-ge (s .signals) (b⁺ s) i l in
-    let half = (v + v′ + 2 * halves s + 1) / 2 in
+    let half = (v + v′ + 2 * halves s - (m + m′) + 1) / 2 in
     let least = min-from (4 * s .cycle) (s .signals) (larger-raised s i) half (omega (arith, each i l r, top s fit i i l)) (λ j h. omega (arith, each j h (stops j h))) in
     omega arith
 
-pub bound-signed : (s : Timed) → Fit s → Bounded s → (f : ℕ → ℕ) (x y v v′ : ℕ) → 1 ≤ v + v′ → Passes (outboundWay s f) x v → Passes (inboundWay s f) y v′ → leℤ (pos (v + v′)) (B s +ℤ B s) ≡ true
-bound-signed s fit two f x y v v′ some out back =
+pub bound-signed : (s : Timed) → Fit s → Bounded s → (f : ℕ → ℕ) (x y v v′ : ℕ) → Passes (outboundWay s f) x v → Passes (inboundWay s f) y v′ → leℤ (pos (v + v′)) (B s +ℤ B s) ≡ true
+bound-signed s fit two f x y v v′ out back =
     let Bp = B⁺ s in
     let H = halves s in
-    let most : v + v′ + 2 * H ≤ Bp + Bp = omega (arith, two f x y v v′ some out back) in
+    let most : v + v′ + 2 * H ≤ Bp + Bp = omega (arith, two f x y v v′ 0 0 (spans out) (spans back)) in
     ap₂ leℤ
     (pos-sub (v + v′) ∙ sub-eq (v + v′) 0 (v + v′ + 2 * H) (H + H) (omega arith))
     (ap₂ _+ℤ_ (B-raised s fit) (B-raised s fit) ∙ add-sub Bp H Bp H)

@@ -1,6 +1,7 @@
 -- Named bands. A band is named by an instant at the reference: outbound by its start there, as the red ends, inbound by its end, as the red starts. Take any offsets that are the
 -- equal plan's, each lowered by its own amount, by nothing too. Then the time since signal j's red ended is u(j)'s, more by j's lowering and less by the reference's. So both bands
--- pass where two inequalities hold at each signal, and they are the same two each way once the two lowerings change places. Assumes nothing.
+-- pass where two inequalities hold at each signal, and they are the same two each way once the two lowerings change places. Where a band is not open the same two inequalities hold of a
+-- stretch of negative length. Assumes nothing.
 use Prim.Native.Nat.{ℕ, _+_, _-_, _*_, _≤_, _<_}
 use mathlib.Core.Path.{_≡_}
 use native.Mathlib.Omega.{arith}
@@ -10,9 +11,9 @@ use Rattle.circle.specs.Method.{Timed, halves, reference, phase, offset,
 use Rattle.circle.specs.Bands.{Way, outboundWay, inboundWay}
 use Rattle.circle.specs.Moved.{chosen}
 use Rattle.circle.proofs.Numbers.Man.{Turns, man-lt, man-turns}
-use Rattle.circle.proofs.Formulas.Raised.{Fit}
-use Rattle.circle.proofs.Stretches.Arcs.{since, Passes}
-use Rattle.circle.proofs.Stretches.Since.{Rising, since-is, start-turns, end-turns}
+use Rattle.circle.proofs.Formulas.Raised.{Fit, B⁺}
+use Rattle.circle.proofs.Stretches.Arcs.{Passes, Spans}
+use Rattle.circle.proofs.Stretches.Since.{Rising, since-le, start-turns, end-turns}
 use Rattle.circle.proofs.Stretches.Reflection.{twice, offset-patterned}
 use Rattle.circle.proofs.Formulas.Reference.{reference-first, offset-own}
 use Rattle.circle.proofs.Formulas.Moving.{chosen-range, chosen-turns}
@@ -31,14 +32,21 @@ meets w c instant a h =
 pub record Named (w : Way) (c instant a v : ℕ) : Type 0 where
   pub passes : (x : ℕ) → Meets w c instant a x → 1 ≤ v → Passes w x v
 
--- the two bands that a plan names, v wide outbound and v′ inbound
+-- the two bands that a plan names, v wide outbound and v′ inbound. As stretches of signed length, less m and m′ where the plan has none of that width, they make up 2B
 pub record Bands (s : Timed) (f : ℕ → ℕ) (v v′ : ℕ) : Type 0 where
+  pub m : ℕ
+  pub m′ : ℕ
+  pub x : ℕ
+  pub y : ℕ
   pub out : Named (outboundWay s f) (reference s) (redEnd s (reference s) (f (reference s))) 0 v
   pub back : Named (inboundWay s f) (reference s) (redStart s (reference s) (f (reference s))) v′ v′
+  pub out-spans : Spans (outboundWay s f) x v m
+  pub back-spans : Spans (inboundWay s f) y v′ m′
+  pub all : v + v′ + 2 * halves s ≡ 2 * B⁺ s + (m + m′)
 
--- room for v departures at signal j, where of the two lowerings, its own and the reference's, d takes from it and e adds to it
-pub record Room (s : Timed) (v j d e : ℕ) : Type 0 where
-  pub before : v + 2 * s .red j + d ≤ chosen s j + e
+-- room for v - m departures at signal j, where of the two lowerings, its own and the reference's, d takes from it and e adds to it
+pub record Room (s : Timed) (v m j d e : ℕ) : Type 0 where
+  pub before : v + 2 * s .red j + d ≤ chosen s j + e + m
   pub after : chosen s j + e ≤ halves s + d
 
 module _ (s : Timed) (fit : Fit s) (rising : Rising s) (f δ : ℕ → ℕ) (low : (j : ℕ) → Turns (halves s) (f j + δ j) (offset s (reference s) j)) where
@@ -60,35 +68,84 @@ module _ (s : Timed) (fit : Fit s) (rising : Rising s) (f δ : ℕ → ℕ) (low
       let o = offset-patterned s (reference s) around .centre j l in
       record { p = σ .p + m .p + o .p; q = σ .q + m .q + o .q; eq = omega (arith, σ .eq, m .eq, o .eq) }
 
-  outbound-since : (x v j : ℕ) → Meets (outboundWay s f) (reference s) (redEnd s (reference s) (f (reference s))) 0 x → j < s .signals → 0 < s .red j → Room s v j (δ j) (δ (reference s)) → since (outboundWay s f) x j + (chosen s j + δ (reference s)) ≡ halves s + δ j
-  outbound-since x v j from l r room =
-      let c = reference s in
-      let U = chosen-turns s fit j in
-      let σ = start j l in
-      let o = own in
-      let E = end-turns s c (f c) around in
-      let g = halves s + δ j - (chosen s j + δ c) in
-      let same = since-is (outboundWay s f) x j g (omega arith) (record { p = U .p + σ .p + o .q + E .q + from .q; q = U .q + σ .q + o .p + E .p + from .p; eq = omega (arith, U .eq, σ .eq, o .eq, E .eq, from .eq, chosen-range s fit j) }) in
-      omega arith
-
-  inbound-since : (y v j : ℕ) → Meets (inboundWay s f) (reference s) (redStart s (reference s) (f (reference s))) v y → j < s .signals → 0 < s .red j → Room s v j (δ (reference s)) (δ j) → since (inboundWay s f) y j + (v + 2 * s .red j + δ (reference s)) ≡ chosen s j + δ j
-  inbound-since y v j to l r room =
-      let c = reference s in
-      let U = chosen-turns s fit j in
-      let σ = start j l in
-      let o = own in
-      let E = start-turns s c (f c) around in
-      let (t, two) = twice (phase s c j) (s .cycle) (offset-patterned s c around .either j l) in
-      let g = chosen s j + δ j - (v + 2 * s .red j + δ c) in
-      let same = since-is (inboundWay s f) y j g (omega arith) (record { p = U .q + σ .p + o .q + E .q + to .q; q = 1 + t + U .p + σ .q + o .p + E .p + to .p; eq = omega (arith, U .eq, σ .eq, o .eq, E .eq, to .eq, chosen-range s fit j, rising j l, rising c (reference-first s fit .below)) }) in
-      omega arith
-
-  -- the bands pass where each signal has room
-  pub bands : (v v′ : ℕ) → (1 ≤ v → (j : ℕ) → j < s .signals → Room s v j (δ j) (δ (reference s))) → (1 ≤ v′ → (j : ℕ) → j < s .signals → Room s v′ j (δ (reference s)) (δ j)) → Bands s f v v′
-  bands v v′ room room′ =
-      let c = reference s in
-      let own-signal : c < s .signals = reference-first s fit .below in
+  -- the departure that comes by the reference as its red ends
+  out-spans-from :
+      (x v m : ℕ) → Meets (outboundWay s f) (reference s) (redEnd s (reference s) (f (reference s))) 0 x → ((j : ℕ) → j < s .signals → Room s v m j (δ j) (δ (reference s))) →
+      Spans (outboundWay s f) x v m
+  out-spans-from x v m from room =
       record {
-        out = record { passes = λ x from some. record { most = let m = room some c own-signal in omega (arith, m .before, m .after); each = λ j l r. let m = room some j l in omega (arith, outbound-since x v j from l (omega arith) m) } };
-        back = record { passes = λ y to some. record { most = let m = room′ some c own-signal in omega (arith, m .before, m .after); each = λ j l r. let m = room′ some j l in omega (arith, inbound-since y v′ j to l (omega arith) m) } };
+        each =
+            λ j l r.
+            let c = reference s in
+            let U = chosen-turns s fit j in
+            let σ = start j l in
+            let o = own in
+            let E = end-turns s c (f c) around in
+            let k = room j l in
+            let g = halves s + δ j - (chosen s j + δ c) in
+            let most = since-le (outboundWay s f) x j g around (record { p = U .p + σ .p + o .q + E .q + from .q; q = U .q + σ .q + o .p + E .p + from .p; eq = omega (arith, U .eq, σ .eq, o .eq, E .eq, from .eq, chosen-range s fit j, k .after) }) in
+            omega (arith, k .before, k .after);
       }
+
+  -- and the one that comes by v before its red starts, or m after that where v is lacking
+  back-spans-to :
+      (y v m : ℕ) → Meets (inboundWay s f) (reference s) (redStart s (reference s) (f (reference s)) + m) v y → ((j : ℕ) → j < s .signals → Room s v m j (δ (reference s)) (δ j)) →
+      Spans (inboundWay s f) y v m
+  back-spans-to y v m to room =
+      record {
+        each =
+            λ j l r.
+            let c = reference s in
+            let U = chosen-turns s fit j in
+            let σ = start j l in
+            let o = own in
+            let E = start-turns s c (f c) around in
+            let (t, two) = twice (phase s c j) (s .cycle) (offset-patterned s c around .either j l) in
+            let k = room j l in
+            let g = chosen s j + δ j + m - (v + 2 * s .red j + δ c) in
+            let most = since-le (inboundWay s f) y j g around (record { p = U .q + σ .p + o .q + E .q + to .q; q = 1 + t + U .p + σ .q + o .p + E .p + to .p; eq = omega (arith, U .eq, σ .eq, o .eq, E .eq, to .eq, chosen-range s fit j, rising j l, rising c (reference-first s fit .below), k .before) }) in
+            omega (arith, k .before, k .after);
+      }
+
+  -- the bands are there where each signal has room, and none is lacking of a band that is open
+  module _
+      (v v′ m m′ : ℕ) (none : 1 ≤ v → m ≡ 0) (none′ : 1 ≤ v′ → m′ ≡ 0) (all : v + v′ + 2 * halves s ≡ 2 * B⁺ s + (m + m′))
+      (room : (j : ℕ) → j < s .signals → Room s v m j (δ j) (δ (reference s))) (room′ : (j : ℕ) → j < s .signals → Room s v′ m′ j (δ (reference s)) (δ j))
+      where
+    first : Named (outboundWay s f) (reference s) (redEnd s (reference s) (f (reference s))) 0 v
+    first =
+        record {
+          passes =
+              λ x from some.
+              let c = room (reference s) (reference-first s fit .below) in
+              let full = none some in
+              record { most = omega (arith, c .before, c .after); each = λ j l r. omega (arith, out-spans-from x v m from room .each j l r) };
+        }
+
+    last : Named (inboundWay s f) (reference s) (redStart s (reference s) (f (reference s))) v′ v′
+    last =
+        record {
+          passes =
+              λ y to some.
+              let c = room′ (reference s) (reference-first s fit .below) in
+              let full = none′ some in
+              let there : Meets (inboundWay s f) (reference s) (redStart s (reference s) (f (reference s)) + m′) v′ y = record { p = to .p; q = to .q; eq = omega (arith, to .eq) } in
+              record { most = omega (arith, c .before, c .after); each = λ j l r. omega (arith, back-spans-to y v′ m′ there room′ .each j l r) };
+        }
+
+    pub bands : Bands s f v v′
+    bands =
+        let c = reference s in
+        let (x, lx, from) = meets (outboundWay s f) c (redEnd s c (f c)) 0 around in
+        let (y, ly, to) = meets (inboundWay s f) c (redStart s c (f c) + m′) v′ around in
+        record {
+          m = m;
+          m′ = m′;
+          x = x;
+          y = y;
+          out = first;
+          back = last;
+          out-spans = out-spans-from x v m from room;
+          back-spans = back-spans-to y v′ m′ to room′;
+          all = all;
+        }

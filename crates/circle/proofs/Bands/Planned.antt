@@ -1,12 +1,12 @@
 -- The named bands of each plan. The equal plan lowers nothing and leaves room for B, since no signal leaves less beside its red. The lowerings of a request leave room for the
--- width that was asked and for what is left of 2B, where something is. Assumes nothing.
-use Prim.Native.Nat.{ℕ, _≤_, _<_}
+-- width that was asked and for what is left of 2B, or for a stretch of negative length where nothing is. Assumes nothing.
+use Prim.Native.Nat.{ℕ, _+_, _-_, _*_, _≤_, _<_}
 use mathlib.Core.Path.{_≡_}
 use mathlib.Core.Bool.{true}
 use native.Mathlib.Omega.{arith}
-use Rattle.circle.specs.Method.{Timed, reference, offset, equalWidth}
+use Rattle.circle.specs.Method.{Timed, halves, reference, offset, equalWidth}
 use Rattle.circle.specs.Moved.{inRange, outboundLowering, inboundLowering, lowered, otherWidth}
-use Rattle.circle.proofs.Formulas.Raised.{Fit}
+use Rattle.circle.proofs.Formulas.Raised.{Fit, B⁺}
 use Rattle.circle.proofs.Stretches.Since.{Rising}
 use Rattle.circle.proofs.Bands.Names.{Bands, Room, bands}
 use Rattle.circle.proofs.Formulas.Moving.{Asked, asked, chosen-range, chosen-leaves, outbound-lowering, inbound-lowering, equal-width, other-width, lowered-turns, outbound-lowering-own, inbound-lowering-own}
@@ -14,10 +14,12 @@ use Rattle.circle.proofs.Formulas.Moving.{Asked, asked, chosen-range, c
 module _ (s : Timed) (fit : Fit s) (rising : Rising s) where
   pub equal-bands : Bands s (offset s (reference s)) (equalWidth s) (equalWidth s)
   equal-bands =
-      bands s fit rising (offset s (reference s)) (λ j. 0) (λ j. record { p = 0; q = 0; eq = omega arith }) (equalWidth s) (equalWidth s) room room
+      let v = equal-width s fit in
+      let lacks = halves s - B⁺ s in
+      bands s fit rising (offset s (reference s)) (λ j. 0) (λ j. record { p = 0; q = 0; eq = omega arith }) (equalWidth s) (equalWidth s) lacks lacks (λ some. omega arith) (λ some. omega arith) (omega arith) room room
     where
-      room : 1 ≤ equalWidth s → (j : ℕ) → j < s .signals → Room s (equalWidth s) j 0 0
-      room some j l =
+      room : (j : ℕ) → j < s .signals → Room s (equalWidth s) (halves s - B⁺ s) j 0 0
+      room j l =
           let u = chosen-leaves s fit j l in
           let m = chosen-range s fit j in
           record { before = omega (arith, equal-width s fit); after = omega arith }
@@ -26,34 +28,38 @@ module _ (s : Timed) (fit : Fit s) (rising : Rising s) where
     ask : Asked s w
     ask = asked s fit w range
 
+    -- what the other direction lacks
+    lacks : ℕ
+    lacks = 2 * halves s + w - 2 * B⁺ s
+
     pub outbound-bands : Bands s (lowered s (outboundLowering s w)) w (otherWidth s w)
+    unfolding lacks
     outbound-bands =
-        bands s fit rising (lowered s (outboundLowering s w)) (outboundLowering s w) (lowered-turns s fit (outboundLowering s w)) w (otherWidth s w)
-        (λ some j l.
-        let u = chosen-leaves s fit j l in
-        let δ = outbound-lowering s fit w j in
-        let o = outbound-lowering-own s fit w ask in
-        record { before = omega (arith, ask .fits j l); after = omega arith })
-        (λ some j l.
-        let u = chosen-leaves s fit j l in
-        let δ = outbound-lowering s fit w j in
-        let o = outbound-lowering-own s fit w ask in
         let v = other-width s fit w in
+        let o = outbound-lowering-own s fit w ask in
+        bands s fit rising (lowered s (outboundLowering s w)) (outboundLowering s w) (lowered-turns s fit (outboundLowering s w)) w (otherWidth s w) 0 lacks (λ some. omega arith) (λ some. omega arith) (omega arith)
+        (λ j l.
+        let u = chosen-leaves s fit j l in
+        let δ = outbound-lowering s fit w j in
+        record { before = omega (arith, ask .fits j l); after = omega arith })
+        (λ j l.
+        let u = chosen-leaves s fit j l in
+        let δ = outbound-lowering s fit w j in
         let m = chosen-range s fit j in
         record { before = omega arith; after = omega arith })
 
     pub inbound-bands : Bands s (lowered s (inboundLowering s w)) (otherWidth s w) w
+    unfolding lacks
     inbound-bands =
-        bands s fit rising (lowered s (inboundLowering s w)) (inboundLowering s w) (lowered-turns s fit (inboundLowering s w)) (otherWidth s w) w
-        (λ some j l.
+        let v = other-width s fit w in
+        let o = inbound-lowering-own s fit w ask in
+        bands s fit rising (lowered s (inboundLowering s w)) (inboundLowering s w) (lowered-turns s fit (inboundLowering s w)) (otherWidth s w) w lacks 0 (λ some. omega arith) (λ some. omega arith) (omega arith)
+        (λ j l.
         let u = chosen-leaves s fit j l in
         let δ = inbound-lowering s fit w j in
-        let o = inbound-lowering-own s fit w ask in
-        let v = other-width s fit w in
         let m = chosen-range s fit j in
         record { before = omega (arith, ask .reaches); after = omega arith })
-        (λ some j l.
+        (λ j l.
         let δ = inbound-lowering s fit w j in
-        let o = inbound-lowering-own s fit w ask in
         let m = chosen-range s fit j in
         record { before = omega arith; after = omega (arith, ask .fits j l) })

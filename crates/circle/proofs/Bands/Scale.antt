@@ -1,25 +1,23 @@
--- Scale: a street counted in N times finer units has B and the reported widths N times as large, and what passes in the coarse unit passes in the fine one. Each remainder is
+-- Scale: a street counted in N times finer units has B and what is left beside a width N times as large, and what passes in the coarse unit passes in the fine one. Each remainder is
 -- settled by uniqueness: N times a number in range is in range, and N times an equation of turns is one. Assumes nothing.
 use Prim.Native.Nat.{ℕ, zero, suc, _+_, _-_, _*_, _≤_, _<_, min, max}
 use mathlib.Core.Path.{_≡_, refl, sym, ap, ap₂, subst, _∙_}
-use mathlib.Core.Logic.{inl, inr, ⊎-elim}
 use native.Mathlib.Omega.{arith}
 use native.Mathlib.Decide.{decLe}
 use native.Mathlib.Nat.{mul-le-mul-left, mul-lt-mul-of-pos-left, mul-sub}
 use lib.IntN.{pos, _-ℤ_}
 use Rattle.circle.specs.Man.{man}
-use Rattle.circle.specs.Method.{Timed, halves, u, b, equalWidth, redStart}
+use Rattle.circle.specs.Method.{Timed, halves, u, b, redStart}
 use Rattle.circle.specs.Bands.{Way, outboundWay, inboundWay}
 use Rattle.circle.specs.Moved.{otherWidth}
 use Rattle.circle.proofs.Numbers.Man.{Turns, man-lt, man-is, man-turns}
 use Rattle.circle.proofs.Numbers.Over.{minBelow, maxBelow}
 use Rattle.circle.proofs.Formulas.Method.{u-is, u-range}
 use Rattle.circle.proofs.Formulas.Raised.{Fit, raised, larger-raised, b⁺, low, B⁺}
-use Rattle.circle.proofs.Stretches.Arcs.{since, Passes}
-use Rattle.circle.proofs.Stretches.Since.{along, Stops, Rising, since-turns, passes-at}
+use Rattle.circle.proofs.Stretches.Arcs.{since, Passes, Spans, spans}
+use Rattle.circle.proofs.Stretches.Since.{along, Stops, Rising, since-turns, since-le}
 use Rattle.circle.proofs.Formulas.Reference.{u-turns}
-use Rattle.circle.proofs.Formulas.Moving.{equal-width, other-width}
-use Rattle.circle.proofs.Stretches.Reflection.{Patterned}
+use Rattle.circle.proofs.Formulas.Moving.{other-width}
 pub use Rattle.circle.specs.Method.{inUnits as scaled}
 
 -- turns in the finer unit
@@ -114,15 +112,7 @@ module _ (N : ℕ) (s : Timed) (fine : 0 < N) (fit : Fit s) where
   pub greatest-scaled : maxBelow (s .signals) (b⁺ (scaled N s)) ≡ N * maxBelow (s .signals) (b⁺ s)
   greatest-scaled = max-below-scaled N (s .signals) (b⁺ (scaled N s)) (b⁺ s) (λ k l. b⁺-scaled k)
 
-  -- the widths that are reported from it
-  pub equal-scaled : equalWidth (scaled N s) ≡ N * equalWidth s
-  equal-scaled =
-      let turn : 2 * (N * s .cycle) ≡ N * (2 * s .cycle) = omega arith in
-      equal-width (scaled N s) fit-scaled
-      ∙ ap₂ _-_ greatest-scaled turn
-      ∙ sym (mul-sub N (B⁺ s) (halves s))
-      ∙ ap (λ (x : ℕ). N * x) (sym (equal-width s fit))
-
+  -- what the other direction is left
   pub other-scaled : (w : ℕ) → otherWidth (scaled N s) (N * w) ≡ N * otherWidth s w
   other-scaled w =
       let all : 2 * (2 * (N * s .cycle)) + N * w ≡ N * (2 * halves s + w) = omega arith in
@@ -132,14 +122,6 @@ module _ (N : ℕ) (s : Timed) (fine : 0 < N) (fit : Fit s) where
       ∙ sym (mul-sub N (2 * B⁺ s) (2 * halves s + w))
       ∙ ap (λ (x : ℕ). N * x) (sym (other-width s fit w))
 
--- half-integer offsets stay so in finer units
-pub patterned-scaled : (N : ℕ) (s : Timed) (c : ℕ) (e f : ℕ → ℕ) → Patterned s c e f → Patterned (scaled N s) c (λ j. N * e j) (λ j. N * f j)
-patterned-scaled N s c e f pattern =
-    record {
-      either = λ j l. ⊎-elim (λ z. inl (omega (arith, ap (λ (x : ℕ). N * x) z))) (λ z. inr (ap (λ (x : ℕ). N * x) z)) (pattern .either j l);
-      centre = λ j l. let o = pattern .centre j l in record { p = o .p; q = o .q; eq = omega (arith, ap (λ (x : ℕ). N * x) (o .eq)) };
-    }
-
 -- a way in N times finer units
 pub record Finer (N : ℕ) (w z : Way) : Type 0 where
   pub around : z .around ≡ N * w .around
@@ -148,27 +130,32 @@ pub record Finer (N : ℕ) (w z : Way) : Type 0 where
   pub length : (j : ℕ) → j < w .signals → z .length j ≡ N * w .length j
   pub lag : (j : ℕ) → j < w .signals → z .lag j ≡ N * w .lag j
 
--- what passes in the coarse unit passes in the fine one
-pub finer-passes : (N : ℕ) (w z : Way) (x k : ℕ) → Finer N w z → Passes w x k → Passes z (N * x) (N * k)
-finer-passes N w z x k same passes =
-    record {
-      most = omega (arith, same .around, mul-le-mul-left N (passes .most));
-      each =
-          λ j h r.
-          let l : j < w .signals = omega (arith, same .signals) in
-          let red : 0 < w .length j = some (w .length j) (omega (arith, same .length j l)) in
-          let room = passes .each j l red in
-          let g : ℕ = since w x j in
-          let c = turns-scaled N (w .around) (g + (w .start j + w .length j)) (x + w .lag j) (since-turns w x j (omega arith)) in
-          let e : Turns (N * w .around) (N * g + (z .start j + z .length j)) (N * x + z .lag j) = record { p = c .p; q = c .q; eq = omega (arith, c .eq, same .start j l, same .length j l, same .lag j l) } in
-          passes-at z (N * x) (N * k) j (N * g) r
-          (omega (arith, same .around, same .length j l, mul-le-mul-left N room))
-          (subst (λ M. Turns M (N * g + (z .start j + z .length j)) (N * x + z .lag j)) (sym (same .around)) e);
-    }
-  where
-    some : (m : ℕ) → 0 < N * m → 0 < m
-    some zero l = absurd (omega arith)
-    some (suc m) l = omega arith
+-- a stretch in the coarse unit, of signed length too, is one in the fine unit
+module _ (N : ℕ) (w z : Way) (same : Finer N w z) (turns : 0 < z .around) where
+  some : (k : ℕ) → 0 < N * k → 0 < k
+  some zero l = absurd (omega arith)
+  some (suc k) l = omega arith
+
+  pub finer-spans : (x v m : ℕ) → Spans w x v m → Spans z (N * x) (N * v) (N * m)
+  finer-spans x v m stretch =
+      record {
+        each =
+            λ j h r.
+            let l : j < w .signals = omega (arith, same .signals) in
+            let room = stretch .each j l (some (w .length j) (omega (arith, same .length j l))) in
+            let g : ℕ = since w x j in
+            let c = turns-scaled N (w .around) (g + (w .start j + w .length j)) (x + w .lag j) (since-turns w x j (some (w .around) (omega (arith, same .around)))) in
+            let e : Turns (N * w .around) (N * g + (z .start j + z .length j)) (N * x + z .lag j) = record { p = c .p; q = c .q; eq = omega (arith, c .eq, same .start j l, same .length j l, same .lag j l) } in
+            let most = since-le z (N * x) j (N * g) turns (subst (λ M. Turns M (N * g + (z .start j + z .length j)) (N * x + z .lag j)) (sym (same .around)) e) in
+            omega (arith, same .around, same .length j l, mul-le-mul-left N room);
+      }
+
+  pub finer-passes : (x k : ℕ) → Passes w x k → Passes z (N * x) (N * k)
+  finer-passes x k passes =
+      record {
+        most = omega (arith, same .around, mul-le-mul-left N (passes .most));
+        each = λ j h r. omega (arith, finer-spans x k 0 (spans passes) .each j h r);
+      }
 
 -- the ways of a street in finer units, its offsets too: under any lags that scale, so in both directions
 module _ (N : ℕ) (s : Timed) (f : ℕ → ℕ) (fine : 0 < N) (turns : 0 < s .cycle) where

@@ -1,8 +1,9 @@
 -- How a stretch is settled at one signal. A number in range that differs by whole turns from the time past the red's end is the time since the red ended. So a proof that k
 -- departures pass names that time for each signal and adds it up. Assumes nothing.
-use Prim.Native.Nat.{ℕ, _+_, _-_, _≤_, _<_}
+use Prim.Native.Nat.{ℕ, _+_, _-_, _*_, _/_, _%_, _≤_, _<_}
 use mathlib.Core.Path.{_≡_, ap}
 use native.Mathlib.Omega.{arith}
+use native.Mathlib.Nat.{mod-lt, mod-add-div'}
 use Rattle.circle.specs.Man.{man}
 use Rattle.circle.specs.Method.{Timed, halves, redEnd, redStart}
 use Rattle.circle.specs.Bands.{Way}
@@ -36,6 +37,14 @@ since-turns w x j h = man-turns (w .around) (x + w .lag j) (w .start j + w .leng
 -- and a number in range that is so added up is that time
 pub since-is : (w : Way) (x j g : ℕ) → g < w .around → Turns (w .around) (g + (w .start j + w .length j)) (x + w .lag j) → since w x j ≡ g
 since-is w x j g less turns = man-is (w .around) (x + w .lag j) (w .start j + w .length j) g less turns
+
+-- out of range such a number is at least that time
+pub since-le : (w : Way) (x j g : ℕ) → 0 < w .around → Turns (w .around) (g + (w .start j + w .length j)) (x + w .lag j) → since w x j ≤ g
+since-le w x j g h turns =
+    let M = w .around in
+    let split = mod-add-div' g M in
+    let same = since-is w x j (g % M) (mod-lt g h) (record { p = turns .p + g / M; q = turns .q; eq = omega (arith, turns .eq) }) in
+    omega arith
 
 -- k departures from x on pass signal j where it leaves room for them before the next red
 pub passes-at : (w : Way) (x k j g : ℕ) → 0 < w .length j → g + k + w .length j ≤ w .around → Turns (w .around) (g + (w .start j + w .length j)) (x + w .lag j) → since w x j + k + w .length j ≤ w .around

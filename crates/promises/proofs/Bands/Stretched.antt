@@ -80,7 +80,7 @@ module _ (l : Lists) (room : ℕ) (passed : planChecks l room ≡ Passed) (N r :
         go (yes little) = omega arith
         go (no more) =
             let w = wayIn l N (λ j. N * f j) near in
-            let q = finer-passes N (wayThrough (timed l) f coarse) (wayIn l N (λ j. N * f j) rounded) x v (d .finer f) p in
+            let q = finer-passes N (wayThrough (timed l) f coarse) (wayIn l N (λ j. N * f j) rounded) (d .finer f) (proper (λ j. N * f j) .turns) x v p in
             let e = forth (λ j. N * f j) (N * x) (N * v) (omega arith) q in
             omega (arith, width-ge w (proper (λ j. N * f j)) (N * x + d .window .moved) (N * v - N * r) e)
 
@@ -117,7 +117,7 @@ module _ (l : Lists) (room : ℕ) (passed : planChecks l room ≡ Passed) (N r :
         let there = w .each c (omega arith) in
         let small = w .within c (omega arith) in
         let room : 2 * Nr + 1 ≤ N * v = omega arith in
-        let q = finer-passes N (wayThrough (timed l) f coarse) counted x v (d .finer f) (named .passes x at-c (some v room)) in
+        let q = finer-passes N (wayThrough (timed l) f coarse) counted (d .finer f) (proper (λ j. N * f j) .turns) x v (named .passes x at-c (some v room)) in
         let e = lags-passes counted near (λ j. w .δ j + Nr - w .δ c) late-by (2 * Nr) (λ j h. omega (arith, w .each j (omega arith))) (λ j h. omega (arith, w .within j (omega arith))) (N * x) (N * v) (omega arith) q in
         let turn = man-turns (z .around) (y + N * a + near c) (N * instant) (proper (λ j. N * f j) .turns) in
         turned z (proper (λ j. N * f j)) y (N * x + late-by) (k - Nr) (N * v - 2 * Nr) (omega arith)

@@ -8,7 +8,7 @@ use Rattle.circle.specs.Method.{Timed, halves, reference, redEnd, redStart}
 use Rattle.circle.specs.Bands.{Way, width, outboundWay, inboundWay}
 use Rattle.circle.proofs.Stretches.{Passes, where-some, along, Proper, width-ge, band-starts}
 use Rattle.circle.proofs.Formulas.{Fit}
-use Rattle.circle.proofs.Bands.{Named, Bands, meets}
+use Rattle.circle.proofs.Bands.{Bounded, Named, Bands, meets, longest-both}
 
 -- both ways through a street, under any lags
 pub proper-way : {lag : ℕ → ℕ} (s : Timed) (f : ℕ → ℕ) → Fit s → Proper (along (outboundWay s f) lag)
@@ -54,19 +54,9 @@ module _ (s : Timed) (ok : Fit s) (f : ℕ → ℕ) {lag : ℕ → ℕ} where
       width-most (along (outboundWay s f) lag′) (proper-way s f ok) (width (along (outboundWay s f) lag))
       (λ x k p. let (y, l, q) = like x k p in stretch-least y k q)
 
--- no stretch under offsets f is longer than v outbound, nor than v′ inbound
-abbrev pub NoneLonger : Timed → (ℕ → ℕ) → ℕ → ℕ → Type 0
-NoneLonger s f v v′ =
-    ((x k : ℕ) → Passes (outboundWay s f) x k → k ≤ v) × ((y k : ℕ) → Passes (inboundWay s f) y k → k ≤ v′)
-
--- a plan's two named bands: neither measured width is below them, and where no stretch exceeds them they are the measured widths
-module _ (s : Timed) (ok : Fit s) (f : ℕ → ℕ) (v v′ : ℕ) (named : Bands s f v v′) where
-  pub bands-least : (v ≤ width (outboundWay s f)) × (v′ ≤ width (inboundWay s f))
-  bands-least =
-      let c = reference s in
-      (named-least s ok f c (redEnd s c (f c)) 0 v (named .out), named-least s ok f c (redStart s c (f c)) v′ v′ (named .back))
-
-  pub bands-measured : NoneLonger s f v v′ → (width (outboundWay s f) ≡ v) × (width (inboundWay s f) ≡ v′)
-  bands-measured (most, most′) =
-      let c = reference s in
-      (named-width s ok f c (redEnd s c (f c)) 0 v (named .out) most, named-width s ok f c (redStart s c (f c)) v′ v′ (named .back) most′)
+-- a plan's two named bands are the measured ones
+pub bands-measured : (s : Timed) → Fit s → Bounded s → (f : ℕ → ℕ) (v v′ : ℕ) → Bands s f v v′ → (width (outboundWay s f) ≡ v) × (width (inboundWay s f) ≡ v′)
+bands-measured s ok two f v v′ named =
+    let c = reference s in
+    let most = longest-both s two f (named .x) (named .y) v v′ (named .m) (named .m′) (named .out-spans) (named .back-spans) (named .all) in
+    (named-width s ok f c (redEnd s c (f c)) 0 v (named .out) (most .0), named-width s ok f c (redStart s c (f c)) v′ v′ (named .back) (most .1))

@@ -1,25 +1,25 @@
 -- What is kept along lags that stay within r halves of the rounded ones. Two bands that are both wider than N times r leave stretches at rounded times, N times r narrower at most, and two such
 -- stretches together never exceed 2B, counted in the fine unit: so the narrower band is at most B and r. The other way, named bands at rounded times leave bands that fall short by r at most;
 -- and of them all but r halves at each end is clear, counted at the reference. With r 0 every band is a stretch at rounded times and back: beside a band of w nothing wider than 2B - w is
--- left, whatever the offsets, and two named bands that make up 2B are the bands; under offsets of the equal plan's form neither band exceeds B, nor 0 where B is negative. Assumes nothing.
+-- left, whatever the offsets, and a plan's named bands are the bands, since they make up 2B as stretches of signed length. Assumes nothing.
 use Prim.Native.Nat.{ℕ, _+_, _-_, _*_, _≤_, _<_, min}
 use mathlib.Core.Path.{_≡_, ap, subst}
 use native.Mathlib.Omega.{arith}
 use native.Mathlib.Decide.{decLe}
 use native.Mathlib.Nat.{mul-le-mul-left}
-use Rattle.circle.specs.Method.{inUnits, halves, reference, phase, equalWidth, redEnd, redStart}
+use Rattle.circle.specs.Method.{inUnits, halves, reference, equalWidth, redEnd, redStart}
 use Rattle.circle.specs.Bands.{width, outboundWay, inboundWay}
 use Rattle.circle.specs.Moved.{otherWidth}
-use Rattle.circle.proofs.Stretches.{Passes, Patterned, Rising}
-use Rattle.circle.proofs.Formulas.{Fit, reference-first, B⁺, equal-width, other-width}
-use Rattle.circle.proofs.Bands.{Bands, beside, neither, fit-scaled, rising-scaled, greatest-scaled, equal-scaled, other-scaled, patterned-scaled}
+use Rattle.circle.proofs.Stretches.{Passes, spans}
+use Rattle.circle.proofs.Formulas.{Fit, reference-first, B⁺, equal-width}
+use Rattle.circle.proofs.Bands.{Bands, beside, longest-both, fit-scaled, greatest-scaled, other-scaled, finer-spans, outbound-finer, inbound-finer}
 use Rattle.street.specs.Lists.{Lists}
 use Rattle.street.specs.Checks.{planChecks}
 use Rattle.street.specs.Streets.{timed}
 use Rattle.street.specs.declared.Verdict.the-variants.{Passed}
 use Rattle.widths.specs.declared.Shift.the-variants.{Unmoved}
 use Rattle.promises.specs.Replies.{InsideClear, NoneBetter}
-use Rattle.promises.proofs.Streets.Passing.{fit, bounded-fine, rising}
+use Rattle.promises.proofs.Streets.Passing.{fit, bounded-fine}
 use Rattle.promises.proofs.Streets.Directions.{wayIn, Near, waysBy}
 use Rattle.promises.proofs.Bands.Stretched.{leaves, all-left, named-short, named-inside, named-exact}
 
@@ -27,15 +27,12 @@ module _ (l : Lists) (room : ℕ) (passed : planChecks l room ≡ Passed) (N r :
   fit-fine : Fit (inUnits N (timed l))
   fit-fine = fit-scaled N (timed l) (near .some) (fit l room passed)
 
-  rising-fine : Rising (inUnits N (timed l))
-  rising-fine = rising-scaled N (timed l) (near .some) (fit l room passed) (rising l room passed)
-
   -- two stretches at rounded times in the fine unit never exceed 2B together, whatever the offsets
   together :
-      (f : ℕ → ℕ) (x y v v′ : ℕ) → 1 ≤ v + v′ → Passes (outboundWay (inUnits N (timed l)) f) x v → Passes (inboundWay (inUnits N (timed l)) f) y v′ →
+      (f : ℕ → ℕ) (x y v v′ : ℕ) → Passes (outboundWay (inUnits N (timed l)) f) x v → Passes (inboundWay (inUnits N (timed l)) f) y v′ →
       v + v′ + 2 * (N * halves (timed l)) ≤ 2 * (N * B⁺ (timed l))
-  together f x y v v′ some p q =
-      let most = bounded-fine l room passed N (near .some) f x y v v′ some p q in
+  together f x y v v′ p q =
+      let most = bounded-fine l room passed N (near .some) f x y v v′ 0 0 (spans p) (spans q) in
       omega (arith, greatest-scaled N (timed l) (near .some) (fit l room passed))
 
   -- B, in the fine unit, is at most the equal width
@@ -55,7 +52,7 @@ module _ (l : Lists) (room : ℕ) (passed : planChecks l room ≡ Passed) (N r :
           let v′ = width (wayIn l N f back) in
           let (x, p) = leaves l room passed N r (near .some) (near .outwards) f (omega arith) in
           let (y, q) = leaves l room passed N r (near .some) (near .inwards) f (omega arith) in
-          let most = together f x y (v - N * r) (v′ - N * r) (omega arith) p q in
+          let most = together f x y (v - N * r) (v′ - N * r) p q in
           omega (arith, B-most)
 
   -- offsets with named bands of v and v′ at rounded times: the bands along the near lags fall short of them by r halves at most, and what is left of them is clear
@@ -85,22 +82,6 @@ module _ (l : Lists) (room : ℕ) (passed : planChecks l room ≡ Passed) (N r :
     nothing : N * r ≡ 0
     nothing = omega (arith, ap (λ (z : ℕ). N * z) none)
 
-    -- both bands are the equal width under any offsets with the equal plan's phases and named bands
-    pub equal-filled :
-        (f : ℕ → ℕ) → Patterned (timed l) (reference (timed l)) (phase (timed l) (reference (timed l))) f → Bands (timed l) f (equalWidth (timed l)) (equalWidth (timed l)) →
-        (width (wayIn l N (λ j. N * f j) out) ≡ N * equalWidth (timed l)) × (width (wayIn l N (λ j. N * f j) back) ≡ N * equalWidth (timed l))
-    equal-filled f pattern named =
-        let s = timed l in
-        let c = reference s in
-        let v = equalWidth s in
-        let e : ℕ → ℕ = λ j. N * phase s c j in
-        let f⁺ : ℕ → ℕ = λ j. N * f j in
-        let is = equal-scaled N s (near .some) (fit l room passed) in
-        let most = neither (inUnits N s) fit-fine (bounded-fine l room passed N (near .some)) rising-fine c e f⁺ (patterned-scaled N s c (phase s c) f pattern) in (
-          named-exact l room passed N r (near .some) (near .outwards) f nothing c (redEnd s c (f c)) 0 v (named .out) (λ x k p. omega (arith, is, most .0 x k p)),
-          named-exact l room passed N r (near .some) (near .inwards) f nothing c (redStart s c (f c)) v v (named .back) (λ y k p. omega (arith, is, most .1 y k p)),
-        )
-
     -- beside a band of w or more, either way
     pub rest :
         (w : ℕ) → 1 ≤ w → (f : ℕ → ℕ) →
@@ -110,22 +91,26 @@ module _ (l : Lists) (room : ℕ) (passed : planChecks l room ≡ Passed) (N r :
         let v = width (wayIn l N f out) in
         let v′ = width (wayIn l N f back) in
         subst (λ (z : ℕ). (N * w ≤ v → v′ ≤ z) × (N * w ≤ v′ → v ≤ z)) (other-scaled N s (near .some) (fit l room passed) w)
-        (beside (inUnits N s) fit-fine (bounded-fine l room passed N (near .some)) rising-fine f (N * w) v v′
+        (beside (inUnits N s) fit-fine (bounded-fine l room passed N (near .some)) f (N * w) v v′
         (omega (arith, mul-le-mul-left N some, near .some))
         (all-left l room passed N r (near .some) (near .outwards) nothing f)
         (all-left l room passed N r (near .some) (near .inwards) nothing f))
 
-    -- two named bands that make up 2B are the bands
+    -- a plan's named bands are the bands: in the fine unit too no departures pass beyond them
     pub filled :
-        (f : ℕ → ℕ) (v v′ : ℕ) → 1 ≤ v → 1 ≤ v′ → v + v′ + 2 * halves (timed l) ≡ 2 * B⁺ (timed l) → Bands (timed l) f v v′ →
+        (f : ℕ → ℕ) (v v′ : ℕ) → Bands (timed l) f v v′ →
         (width (wayIn l N (λ j. N * f j) out) ≡ N * v) × (width (wayIn l N (λ j. N * f j) back) ≡ N * v′)
-    filled f v v′ some some′ sum named =
+    filled f v v′ named =
         let s = timed l in
+        let c = reference s in
+        let z = inUnits N s in
         let f⁺ : ℕ → ℕ = λ j. N * f j in
-        let is : otherWidth s v ≡ v′ = omega (arith, other-width s (fit l room passed) v) in
-        let is′ : otherWidth s v′ ≡ v = omega (arith, other-width s (fit l room passed) v′) in
-        let least = short-out f v v′ named in
-        let least′ = short-back f v v′ named in
-        let most = rest v some f⁺ .0 (omega (arith, nothing)) in
-        let most′ = rest v′ some′ f⁺ .1 (omega (arith, nothing)) in
-        (omega (arith, nothing, ap (λ (z : ℕ). N * z) is′), omega (arith, nothing, ap (λ (z : ℕ). N * z) is))
+        let around : 0 < 2 * (N * s .cycle) = omega (arith, fit-fine .turns) in
+        let turn = fit l room passed .turns in
+        let to = finer-spans N (outboundWay s f) (outboundWay z f⁺) (outbound-finer N s f (near .some) turn) around (named .x) v (named .m) (named .out-spans) in
+        let fro = finer-spans N (inboundWay s f) (inboundWay z f⁺) (inbound-finer N s f (near .some) turn) around (named .y) v′ (named .m′) (named .back-spans) in
+        let all : N * v + N * v′ + 2 * halves z ≡ 2 * B⁺ z + (N * named .m + N * named .m′) = omega (arith, ap (λ (k : ℕ). N * k) (named .all), greatest-scaled N s (near .some) (fit l room passed)) in
+        let most = longest-both z (bounded-fine l room passed N (near .some)) f⁺ (N * named .x) (N * named .y) (N * v) (N * v′) (N * named .m) (N * named .m′) to fro all in (
+          named-exact l room passed N r (near .some) (near .outwards) f nothing c (redEnd s c (f c)) 0 v (named .out) (most .0),
+          named-exact l room passed N r (near .some) (near .inwards) f nothing c (redStart s c (f c)) v′ v′ (named .back) (most .1),
+        )

@@ -7,12 +7,11 @@ use native.Mathlib.Omega.{arith}
 use native.Mathlib.Decide.{decLt, ℕ-discrete}
 use lib.Dec.{ltb}
 use borrow.Author.Tests.{lt-ltb, le-ltb, eq-eqb, ne-eqb}
-use Rattle.circle.specs.Method.{Timed, reference, phase, offset, equalWidth, redEnd, redStart}
-use Rattle.circle.specs.Bands.{width, outboundWay, inboundWay}
+use Rattle.circle.specs.Method.{Timed, reference, offset, equalWidth, redEnd, redStart}
 use Rattle.circle.specs.Moved.{inRange, otherWidth, platoonWidth}
-use Rattle.circle.proofs.Formulas.{Fit, asked, reference-lt, other-width, platoons-range}
-use Rattle.circle.proofs.Stretches.{Rising, Patterned, offset-patterned}
-use Rattle.circle.proofs.Bands.{Bounded, Bands, equal-bands, outbound-bands, inbound-bands, neither, fill}
+use Rattle.circle.proofs.Formulas.{Fit, asked, reference-lt, platoons-range}
+use Rattle.circle.proofs.Stretches.{Rising}
+use Rattle.circle.proofs.Bands.{Bands, equal-bands, outbound-bands, inbound-bands}
 use Rattle.street.specs.Lists.{Lists}
 use Rattle.street.specs.Checks.{planChecks}
 use Rattle.street.specs.Streets.{m, timed}
@@ -23,12 +22,11 @@ use Rattle.widths.specs.declared.Shift.the-variants.{Unmoved, Outbound, Inbound
 use Rattle.offsets.specs.Moved.{movedOffset}
 use Rattle.offsets.proofs.MovedLaws.{unmoved-offset}
 use Rattle.plans.specs.Requests.{movedPlan}
-use Rattle.promises.specs.Replies.{InsideClear, Firm, NoneBetter, Kept}
-use Rattle.promises.proofs.Streets.Passing.{fit, bounded, rising}
+use Rattle.promises.specs.Replies.{InsideClear, NoneBetter, Kept}
+use Rattle.promises.proofs.Streets.Passing.{fit, rising}
 use Rattle.promises.proofs.Streets.Directions.{wayIn, Near, waysBy}
-use Rattle.promises.proofs.Bands.Widths.{NoneLonger}
-use Rattle.promises.proofs.Bands.Agreed.{bands-same, pattern-same}
-use Rattle.promises.proofs.Kept.Bounds.{none-wider, short-out, short-back, clear-out, clear-back, equal-filled, rest, filled}
+use Rattle.promises.proofs.Bands.Agreed.{bands-same}
+use Rattle.promises.proofs.Kept.Bounds.{none-wider, short-out, short-back, clear-out, clear-back, rest, filled}
 
 -- a shift to a width in range; the equal plan asks for none
 abbrev pub InRange : Timed → Shift → Type 0
@@ -46,11 +44,6 @@ module _ (s : Timed) (ok : Fit s) (rise : Rising s) where
     own-offset : Follows s Unmoved g → (j : ℕ) → j < s .signals → g j ≡ offset s (reference s) j
     own-offset same j l = same j l ∙ unmoved-offset s j (ok .turns)
 
-    equal-pattern : Follows s Unmoved g → Patterned s (reference s) (phase s (reference s)) g
-    equal-pattern same =
-        let c = reference s in
-        pattern-same s (offset s c) g (own-offset same) c (phase s c) (offset-patterned s c (omega (arith, ok .turns)))
-
     -- such offsets have the plan's named bands
     pub plan-bands : (shift : Shift) → Follows s shift g → InRange s shift → Bands s g (outboundWidth shift s) (inboundWidth shift s)
     plan-bands Unmoved same range =
@@ -59,18 +52,6 @@ module _ (s : Timed) (ok : Fit s) (rise : Rising s) where
         bands-same s (movedOffset (Outbound w) s) g same (ok .some) w (otherWidth s w) (outbound-bands s ok rise w range)
     plan-bands (Inbound w) same range =
         bands-same s (movedOffset (Inbound w) s) g same (ok .some) (otherWidth s w) w (inbound-bands s ok rise w range)
-
-    -- and no stretch in halves is longer than its firm widths: two that are both above 0 make up 2B
-    pub firm-most :
-        Bounded s → (shift : Shift) → Follows s shift g → InRange s shift → Firm shift (outboundWidth shift s) (inboundWidth shift s) →
-        NoneLonger s g (outboundWidth shift s) (inboundWidth shift s)
-    firm-most two Unmoved same range firm = neither s ok two rise (reference s) (phase s (reference s)) g (equal-pattern same)
-    firm-most two (Outbound w) same range (p, q) =
-        let (out, back) = fill s ok two rise g w (otherWidth s w) p q (omega (arith, other-width s ok w)) (plan-bands (Outbound w) same range) in
-        (out .most, back .most)
-    firm-most two (Inbound w) same range (p, q) =
-        let (out, back) = fill s ok two rise g (otherWidth s w) w p q (omega (arith, other-width s ok w)) (plan-bands (Inbound w) same range) in
-        (out .most, back .most)
 
   -- what platoons ask for is in range, so code 9 never comes from them, and what is promised of a shift in range is promised of platoon plans
   pub platoons-in-range : (P Q : ℕ) → InRange s (platoonShift s P Q)
@@ -97,24 +78,6 @@ module _ (l : Lists) (room : ℕ) (passed : planChecks l room ≡ Passed) (N r :
   none-better (Outbound w) range = λ none f. rest l room passed N r near none w (asked (timed l) (fit l room passed) w range .some) f .0
   none-better (Inbound w) range = λ none f. rest l room passed N r near none w (asked (timed l) (fit l room passed) w range .some) f .1
 
-  -- with nothing lost, firm widths are the bands' own
-  firm-widths :
-      r ≡ 0 → (g : ℕ → ℕ) (shift : Shift) → Follows (timed l) shift g → InRange (timed l) shift → Firm shift (outboundWidth shift (timed l)) (inboundWidth shift (timed l)) →
-      (width (wayIn l N (λ j. N * g j) out) ≡ N * outboundWidth shift (timed l)) × (width (wayIn l N (λ j. N * g j) back) ≡ N * inboundWidth shift (timed l))
-  firm-widths none g Unmoved same range firm =
-      let s = timed l in
-      let ok = fit l room passed in
-      let rise = rising l room passed in
-      equal-filled l room passed N r near none g (equal-pattern s ok rise g same) (plan-bands s ok rise g Unmoved same range)
-  firm-widths none g (Outbound w) same range (p, q) =
-      let s = timed l in
-      let ok = fit l room passed in
-      filled l room passed N r near none g w (otherWidth s w) p q (omega (arith, other-width s ok w)) (plan-bands s ok (rising l room passed) g (Outbound w) same range)
-  firm-widths none g (Inbound w) same range (p, q) =
-      let s = timed l in
-      let ok = fit l room passed in
-      filled l room passed N r near none g (otherWidth s w) w p q (omega (arith, other-width s ok w)) (plan-bands s ok (rising l room passed) g (Inbound w) same range)
-
   -- all that a plan keeps, under offsets that follow it: the reference is counted from 1 in its numbers, and its red is where the offsets have it
   pub plan-keeps : (shift : Shift) (g : ℕ → ℕ) → Follows (timed l) shift g → InRange (timed l) shift → Kept shift (waysBy l N out back) g (movedPlan shift (timed l) (m l)) r
   plan-keeps shift g same range =
@@ -133,6 +96,6 @@ module _ (l : Lists) (room : ℕ) (passed : planChecks l room ≡ Passed) (N r :
         inbound-clear = subst (λ (k : ℕ). InsideClear N fro k (redStart s c (movedOffset shift s c)) v′ v′ r) from-1 (subst (λ (z : ℕ). InsideClear N fro c (redStart s c z) v′ v′ r) own (clear-back l room passed N r near g v v′ named));
         outbound-short = short-out l room passed N r near g v v′ named;
         inbound-short = short-back l room passed N r near g v v′ named;
-        firm-widths = λ none. firm-widths none g shift same range;
+        widths = λ none. filled l room passed N r near none g v v′ named;
         none-better = none-better shift range;
       }

@@ -1,4 +1,4 @@
--- The measure of the offsets that a plan leaves: they are instants of the cycle, so that no check refuses them, and the widths found are those of the plan's named bands, or more. The offsets enter
+-- The measure of the offsets that a plan leaves: they are instants of the cycle, so that no check refuses them, and the widths found are those of the plan's named bands. The offsets enter
 -- through the lent list's first entries. Assumes nothing.
 use Prim.Native.Nat.{ℕ, _*_, _≤_, _<_}
 use mathlib.Core.Path.{_≡_, refl, sym, ap, ap₂, subst, _∙_}
@@ -22,10 +22,10 @@ use Rattle.offsets.specs.Moved.{movedOffset}
 use Rattle.plans.proofs.Unique.{offsets-below}
 use Rattle.bands.specs.Measure.{badOffset, offsetCheck, measureChecks, measuredOf, foundOr, measurementOf, numbersOf}
 use Rattle.bands.proofs.CheckLaws.{checks-full}
-use Rattle.promises.specs.Replies.{Firm, MeasureAgrees}
+use Rattle.promises.specs.Replies.{MeasureAgrees}
 use Rattle.promises.proofs.Streets.Passing.{fit, bounded, rising}
-use Rattle.promises.proofs.Bands.Widths.{bands-least, bands-measured}
-use Rattle.promises.proofs.Kept.{Follows, firm-most, plan-bands}
+use Rattle.promises.proofs.Bands.Widths.{bands-measured}
+use Rattle.promises.proofs.Kept.{Follows, plan-bands}
 use Rattle.promises.proofs.Replies.Calls.{reply-told}
 
 module _ (l : Lists) (room : ℕ) (passed : planChecks l room ≡ Passed) (shift : Shift) (offsets : List ℕ) (count : length offsets ≡ signals l) (same : Follows (timed l) shift (λ j. getD offsets j 0)) where
@@ -56,12 +56,8 @@ measure-agrees asked l entry exit r call code =
     let f : ℕ → ℕ = λ j. getD offsets j 0 in
     let same : Follows s shift f = λ j h. getD-take n exit j 0 h ∙ told .same j h in
     let named = plan-bands s ok rise f shift same (told .range) in
-    let (least, least′) = bands-least s ok f v v′ named in
     let all = accepted l room passed shift offsets (length-take-le n exit (told .long)) same in
     let found : numbersOf (foundOr Passed (measuredOf s offsets)) ≡ numbersOf (measurementOf l offsets) = ap (λ c. numbersOf (foundOr c (measuredOf s offsets))) (sym all) in
-    subst (λ p. (numbersOf (measurementOf l offsets) .code ≡ 0)
-        × (p .outbound ≤ numbersOf (measurementOf l offsets) .outbound .width)
-        × (p .inbound ≤ numbersOf (measurementOf l offsets) .inbound .width)
-        × (Firm shift (p .outbound) (p .inbound) → (numbersOf (measurementOf l offsets) .outbound .width ≡ p .outbound) × (numbersOf (measurementOf l offsets) .inbound .width ≡ p .inbound))) (told .numbers)
-    (subst (λ m. (m .code ≡ 0) × (v ≤ m .outbound .width) × (v′ ≤ m .inbound .width) × (Firm shift v v′ → (m .outbound .width ≡ v) × (m .inbound .width ≡ v′))) found
-    (refl, least, least′, λ firm. bands-measured s ok f v v′ named (firm-most s ok rise f (bounded l room passed) shift same (told .range) firm)))
+    let is = bands-measured s ok (bounded l room passed) f v v′ named in
+    subst (λ p. let n = numbersOf (measurementOf l offsets) in (n .code ≡ 0) × (n .outbound .width ≡ p .outbound) × (n .inbound .width ≡ p .inbound)) (told .numbers)
+    (subst (λ n. (n .code ≡ 0) × (n .outbound .width ≡ v) × (n .inbound .width ≡ v′)) found (refl, is .0, is .1))

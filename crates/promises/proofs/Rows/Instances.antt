@@ -21,8 +21,8 @@ BothWide l offsets v =
 
 pub instances : BothWide (pair 600 300 30000) (0 ∷ 600 ∷ []) 600 × BothWide (pair 600 300 15000) (0 ∷ 0 ∷ []) 300 × BothWide streetA (0 ∷ 10 ∷ []) 60
 unfolding two pair streetA lent firstBelow sumBelow leastBelow greatestBelow listBelow u pairWidth b B reference phase offset equalWidth redEnd redStart lowered countCheck roomCheck cycleCheck redCheck distanceCheck speedCheck planChecks
-instances = (
-  measure-agrees Equal (pair 600 300 30000) lent _ _ (record { reply = refl; after = refl }) refl .3 tt,
-  measure-agrees Equal (pair 600 300 15000) lent _ _ (record { reply = refl; after = refl }) refl .3 tt,
-  measure-agrees Equal streetA lent _ _ (record { reply = refl; after = refl }) refl .3 tt,
-)
+instances =
+    let half = measure-agrees Equal (pair 600 300 30000) lent _ _ (record { reply = refl; after = refl }) refl in
+    let quarter = measure-agrees Equal (pair 600 300 15000) lent _ _ (record { reply = refl; after = refl }) refl in
+    let a = measure-agrees Equal streetA lent _ _ (record { reply = refl; after = refl }) refl in
+    ((half .1, half .2), (quarter .1, quarter .2), (a .1, a .2))
