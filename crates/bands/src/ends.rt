@@ -5,7 +5,7 @@ use street::Street;
 ghost use mathlib.Core.Path.{_≡_};
 ghost use Prim.Native.Nat.{_≤_};
 ghost use lib.ListN.{length};
-ghost use Rattle.road.specs.Limits.{maxTime};
+ghost use Rattle.road.specs.Steps.{maxTime};
 ghost use Rattle.street.specs.Streets.{timedBy, Sound};
 ghost use Rattle.bands.specs.Search.{lagBy, Placed, Ended};
 

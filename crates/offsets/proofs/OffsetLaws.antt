@@ -17,7 +17,7 @@ use Rattle.circle.specs.Moved.{chosen, lowered}
 use Rattle.circle.proofs.Numbers.{getD-listBelow, man-lt, man-is, man-turns}
 use Rattle.circle.proofs.Formulas.{reference-lt, Fit, B⁺, phase-test, outbound-lowering, inbound-lowering}
 use Rattle.circle.proofs.Stretches.{offset-turns}
-use Rattle.road.specs.Limits.{maxTime}
+use Rattle.road.specs.Steps.{maxTime}
 use Rattle.street.specs.Streets.{Sound}
 use Rattle.search.specs.Search.{pairOf}
 use Rattle.search.proofs.Pairs.{Pair, pair-widths}

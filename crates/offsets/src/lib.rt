@@ -7,7 +7,7 @@ ghost use mathlib.Core.List.{_++_};
 ghost use Prim.Native.Nat.{_*_, _≤_, _<_};
 ghost use lib.ListN.{length, drop};
 ghost use Rattle.circle.specs.Over.{listBelow};
-ghost use Rattle.road.specs.Limits.{maxTime};
+ghost use Rattle.road.specs.Steps.{maxTime};
 ghost use Rattle.street.specs.Limits.{maxCycle, maxHalves};
 ghost use Rattle.street.specs.Streets.{timedBy};
 ghost use Rattle.widths.specs.Moved.{shiftWidth};

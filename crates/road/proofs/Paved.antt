@@ -5,9 +5,9 @@ use mathlib.Core.List.{List}
 use native.Mathlib.Omega.{arith}
 use lib.ListN.{length, drop, getD, replicate}
 use Rattle.circle.proofs.Numbers.{getD-listBelow, sum-rises}
-use Rattle.road.specs.Limits.{minSignals, maxSignals, maxTime}
-use Rattle.road.specs.Times.{linkTicks, timeTo, Driveable}
-use Rattle.road.specs.Roads.{padded, roadOf}
+use Rattle.road.specs.Limits.{minSignals, maxSignals}
+use Rattle.road.specs.Times.{linkTicks, timeTo}
+use Rattle.road.specs.Steps.{maxTime, Driveable, padded, roadOf}
 use Rattle.road.specs.declared.Road.{Road}
 use Rattle.road.proofs.TimeLaws.{time-far}
 

@@ -8,8 +8,9 @@ use native.Mathlib.Nat.{div-lt-iff-lt-mul}
 use lib.ListN.{length, getD}
 use Rattle.circle.specs.Over.{sumBelow, countBelow}
 use Rattle.circle.proofs.Numbers.{sum-more}
-use Rattle.road.specs.Limits.{maxDistance, minSpeed, maxLinkTime}
-use Rattle.road.specs.Times.{ticks, linkLength, linkTicks, timeTo, Driveable}
+use Rattle.road.specs.Limits.{maxDistance, minSpeed}
+use Rattle.road.specs.Times.{ticks, linkLength, linkTicks, timeTo}
+use Rattle.road.specs.Steps.{maxLinkTime, Driveable}
 
 pub ticks-small : (d v : ℕ) → d ≤ maxDistance → minSpeed ≤ v → ticks d v ≤ maxLinkTime
 ticks-small d v near slow =

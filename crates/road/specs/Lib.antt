@@ -1,3 +1,3 @@
 pub mod Limits
 pub mod Times
-pub mod Roads
+pub mod Steps

@@ -1,5 +1,5 @@
 -- The limits of a road (01, 'Units and the street').
-use Prim.Native.Nat.{ℕ, _+_, _-_, _*_, _/_}
+use Prim.Native.Nat.{ℕ}
 
 -- signals on it
 abbrev pub minSignals : ℕ
@@ -18,11 +18,3 @@ minSpeed = 1000
 
 abbrev pub maxSpeed : ℕ
 maxSpeed = 40000
-
--- bounds on travel times, in ticks: no link takes longer than the whole distance at the least speed, and one tick for its rounding; and no way along the road longer than
--- that on every link
-abbrev pub maxLinkTime : ℕ
-maxLinkTime = 10 * maxDistance / minSpeed + 1
-
-abbrev pub maxTime : ℕ
-maxTime = (maxSignals - 1) * maxLinkTime

@@ -4,8 +4,7 @@ mod times;
 
 ghost use mathlib.Core.Path.{_≡_};
 ghost use lib.ListN.{length};
-ghost use Rattle.road.specs.Times.{Driveable};
-ghost use Rattle.road.specs.Roads.{Zeros, roadOf, laid};
+ghost use Rattle.road.specs.Steps.{Driveable, Zeros, roadOf, laid};
 
 // A road: how many signals, for each the outbound ticks from signal 1 to it and the inbound ticks from it to signal 1, and the
 // number of links with a rounded time. Entries from `signals` on are 0.

@@ -5,7 +5,8 @@ ghost use Prim.Native.Nat.{_+_, _-_, _≤_, _<_};
 ghost use lib.ListN.{length, getD};
 ghost use Rattle.circle.specs.Over.{_or_};
 ghost use Rattle.road.specs.Limits.{maxDistance, minSpeed, maxSpeed};
-ghost use Rattle.road.specs.Times.{ticks, whole, linkLength, linkTicks, roundedLink, Driveable};
+ghost use Rattle.road.specs.Times.{ticks, whole, linkLength, linkTicks, roundedLink};
+ghost use Rattle.road.specs.Steps.{Driveable};
 
 // A link's time in one direction: the rounded ticks, and whether the exact time was whole already.
 struct LinkTime {

@@ -10,7 +10,7 @@ use native.Mathlib.Numerals.{add-one}
 use lib.ListN.{length, take, drop, set, replicate, length-set, take-append-drop}
 use lib.Seq.{append-snoc, take-suc-set, drop-set-lt, length-take-le, drop-drop}
 use Rattle.road.specs.Limits.{maxSignals}
-use Rattle.road.specs.Roads.{Zeros}
+use Rattle.road.specs.Steps.{Zeros}
 use Rattle.street.specs.declared.Code.the-variants.{Sheet}
 use Rattle.sheet.specs.declared.Number.{Number}
 use Rattle.sheet.specs.Numbers.{spaced, ended, number}

@@ -4,7 +4,7 @@ ghost use mathlib.Core.Path.{_≡_};
 ghost use Prim.Native.Nat.{_≤_};
 ghost use lib.ListN.{drop};
 ghost use Rattle.road.specs.Limits.{maxSignals};
-ghost use Rattle.road.specs.Roads.{Zeros};
+ghost use Rattle.road.specs.Steps.{Zeros};
 ghost use Rattle.sheet.specs.Bytes.{maxBytes, kindOf};
 ghost use Rattle.sheet.specs.Numbers.{number, more};
 ghost use Rattle.sheet.specs.Sections.{pairs, section, cycleSection};

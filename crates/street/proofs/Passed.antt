@@ -11,7 +11,7 @@ use borrow.Author.Tests.{ltb-false, leb-false, lt-ltb, leb-true, le-leb, not-fal
 use Rattle.circle.specs.Over.{Found, nowhere, at, firstBelow, _or_}
 use Rattle.circle.proofs.Numbers.{first-none}
 use Rattle.road.specs.Limits.{maxSignals, maxDistance, minSpeed, maxSpeed}
-use Rattle.road.specs.Times.{Driveable}
+use Rattle.road.specs.Steps.{Driveable}
 use Rattle.street.specs.Limits.{minCycle, maxCycle, minRed}
 use Rattle.street.specs.Lists.{Lists, signals}
 use Rattle.street.specs.Checks.{within, faultAt, orNext, firstFault, badRed, badDistance, badSpeed, countCheck, roomCheck, cycleCheck, redCheck, distanceCheck, speedCheck, counts, openingChecks, numberChecks, planChecks}

@@ -3,9 +3,9 @@ use Prim.Native.Nat.{ℕ, _-_, _≤_, _<_}
 use mathlib.Core.List.{List}
 use lib.ListN.{getD, replicate}
 use Rattle.circle.specs.Method.{Timed}
-use Rattle.road.specs.Limits.{minSignals, maxSignals, maxTime}
+use Rattle.road.specs.Limits.{minSignals, maxSignals}
 use Rattle.road.specs.Times.{timeTo, roundedLinks}
-use Rattle.road.specs.Roads.{padded, roadOf}
+use Rattle.road.specs.Steps.{maxTime, padded, roadOf}
 use Rattle.street.specs.Limits.{minCycle, maxCycle, minRed}
 use Rattle.street.specs.Lists.{Lists, signals}
 use Rattle.street.specs.Checks.{planChecks}

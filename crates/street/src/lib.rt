@@ -7,7 +7,7 @@ ghost use mathlib.Core.Path.{_≡_};
 ghost use Prim.Native.Nat.{_≤_};
 ghost use lib.ListN.{length, getD};
 ghost use Rattle.road.specs.Limits.{minSignals, maxSignals, maxDistance, minSpeed, maxSpeed};
-ghost use Rattle.road.specs.Roads.{Zeros, padded};
+ghost use Rattle.road.specs.Steps.{Zeros, padded};
 ghost use Rattle.street.specs.Limits.{minCycle, maxCycle, minRed, maxPlatoon};
 ghost use Rattle.street.specs.Lists.{typed};
 ghost use Rattle.street.specs.Codes.{codeNumber};

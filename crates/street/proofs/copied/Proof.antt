@@ -8,7 +8,7 @@ use borrow.Author.Needs.{needs}
 use Rattle.circle.proofs.Numbers.{fill-store}
 use Rattle.circle.specs.Over.{listBelow}
 use Rattle.road.specs.Limits.{maxSignals}
-use Rattle.road.specs.Roads.{padded}
+use Rattle.road.specs.Steps.{padded}
 use Rattle.street.proofs.copied.Statement.{statement}
 use Rattle.street.proofs.copied.Tie as tie
 

@@ -9,9 +9,9 @@ use lib.ListN.{length, drop, replicate}
 use borrow.Author.Needs.{needs}
 use Rattle.circle.specs.Over.{sumBelow, countBelow, listBelow}
 use Rattle.circle.proofs.Numbers.{fill-store}
-use Rattle.road.specs.Limits.{maxSignals, maxTime}
-use Rattle.road.specs.Times.{linkTicks, timeTo, roundedLink, Driveable}
-use Rattle.road.specs.Roads.{padded}
+use Rattle.road.specs.Limits.{maxSignals}
+use Rattle.road.specs.Times.{linkTicks, timeTo, roundedLink}
+use Rattle.road.specs.Steps.{maxTime, Driveable, padded}
 use Rattle.road.proofs.TimeLaws.{sum-step, mark-small, time-small, time-far, count-small}
 use Rattle.road.proofs.Road.fill.Statement.{statement}
 use Rattle.road.proofs.Road.fill.Tie as tie

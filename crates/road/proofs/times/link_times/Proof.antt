@@ -9,7 +9,8 @@ use lib.ListN.{length, getD}
 use borrow.Author.Needs.{needs}
 use Rattle.circle.specs.Over.{_or_}
 use Rattle.road.specs.Limits.{maxDistance, minSpeed, maxSpeed}
-use Rattle.road.specs.Times.{ticks, whole, linkLength, Driveable}
+use Rattle.road.specs.Times.{ticks, whole, linkLength}
+use Rattle.road.specs.Steps.{Driveable}
 use Rattle.road.proofs.TimeLaws.{link-near}
 use Rattle.road.proofs.times.link_times.Statement.{statement}
 use Rattle.road.proofs.times.link_times.Tie as tie

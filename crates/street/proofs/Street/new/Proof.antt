@@ -5,7 +5,7 @@ use mathlib.Core.Path.{_≡_, refl, sym, ap, _∙_}
 use mathlib.Core.List.{List}
 use lib.ListN.{length}
 use borrow.Author.Needs.{needs}
-use Rattle.road.specs.Roads.{roadOf, laid}
+use Rattle.road.specs.Steps.{roadOf, laid}
 use Rattle.street.specs.Lists.{Lists, typed}
 use Rattle.street.specs.Checks.{planChecks}
 use Rattle.street.specs.Streets.{streetOf, noStreet, surveyed}
