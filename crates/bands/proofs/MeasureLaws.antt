@@ -12,7 +12,8 @@ use Rattle.circle.proofs.Numbers.{man-lt}
 use Rattle.circle.proofs.Stretches.{outbound-alike, inbound-alike}
 use Rattle.street.specs.Lists.{Lists, signals}
 use Rattle.street.specs.Checks.{orNext, planChecks}
-use Rattle.street.specs.Streets.{timed, streetOf, timedStreet, Sound}
+use Rattle.street.specs.Streets.{timed}
+use Rattle.street.specs.Steps.{streetOf, timedStreet, Sound}
 use Rattle.street.specs.declared.Code.the-variants.{Count}
 use Rattle.street.specs.declared.Refusal.{Refusal}
 use Rattle.street.specs.declared.Street.{Street}

@@ -10,7 +10,7 @@ use Rattle.circle.specs.Method.{Timed, halves, redStart}
 use Rattle.circle.specs.Bands.{Way, width}
 use Rattle.circle.proofs.Numbers.{man-lt, man-is, man-turns}
 use Rattle.circle.proofs.Stretches.{past, Alike, width-alike, start-alike}
-use Rattle.street.specs.Streets.{Sound}
+use Rattle.street.specs.Steps.{Sound}
 use Rattle.stretches.specs.Stretches.{Fitting, bandOf}
 use Rattle.bands.specs.Search.{seen}
 

@@ -6,7 +6,7 @@ ghost use mathlib.Core.Path.{_≡_};
 ghost use Prim.Native.Nat.{_≤_};
 ghost use lib.ListN.{length};
 ghost use Rattle.road.specs.Steps.{maxTime};
-ghost use Rattle.street.specs.Streets.{timedBy, Sound};
+ghost use Rattle.street.specs.Steps.{timedBy, Sound};
 ghost use Rattle.bands.specs.Search.{lagBy, Placed, Ended};
 
 // How long after its departure a car is at a signal, in halves. Outbound it departs at signal 1, inbound at signal n, whose inbound

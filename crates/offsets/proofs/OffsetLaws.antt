@@ -18,7 +18,7 @@ use Rattle.circle.proofs.Numbers.{getD-listBelow, man-lt, man-is, man-turns}
 use Rattle.circle.proofs.Formulas.{reference-lt, Fit, B⁺, phase-test, outbound-lowering, inbound-lowering}
 use Rattle.circle.proofs.Stretches.{offset-turns}
 use Rattle.road.specs.Steps.{maxTime}
-use Rattle.street.specs.Streets.{Sound}
+use Rattle.street.specs.Steps.{Sound}
 use Rattle.search.specs.Search.{pairOf}
 use Rattle.search.proofs.Pairs.{Pair, pair-widths}
 use Rattle.search.proofs.Leading.{fit-sound}

@@ -11,7 +11,8 @@ use Rattle.circle.proofs.Numbers.{list-ext, length-listBelow}
 use Rattle.circle.proofs.Formulas.{Agree, B-agree, reference-agree, redEnd-agree, redStart-agree, reference-lt}
 use Rattle.street.specs.Lists.{Lists, signals}
 use Rattle.street.specs.Checks.{orNext, firstFault, planChecks}
-use Rattle.street.specs.Streets.{timed, m, streetOf, timedStreet}
+use Rattle.street.specs.Streets.{timed, m}
+use Rattle.street.specs.Steps.{streetOf, timedStreet}
 use Rattle.street.specs.declared.Street.{Street}
 use Rattle.street.specs.declared.Verdict.{Verdict}
 use Rattle.street.specs.declared.Verdict.the-variants as verdict

@@ -7,7 +7,7 @@ use lib.IntN.{ℤ, pos, _-ℤ_}
 use lib.ListN.{getD}
 use Rattle.circle.specs.Man.{man}
 use Rattle.circle.specs.Method.{Timed, halves, B, reference}
-use Rattle.street.specs.Streets.{timedWith, Sound}
+use Rattle.street.specs.Steps.{timedWith, Sound}
 use Rattle.search.specs.declared.Candidate.{Candidate}
 
 -- a raised number as the signed number that it stands for

@@ -8,7 +8,7 @@ ghost use lib.ListN.{length};
 ghost use Rattle.circle.specs.Over.{leastBelow};
 ghost use Rattle.road.specs.Limits.{maxSignals};
 ghost use Rattle.street.specs.Limits.{maxCycle};
-ghost use Rattle.street.specs.Streets.{timedBy, Sound};
+ghost use Rattle.street.specs.Steps.{timedBy, Sound};
 ghost use Rattle.search.specs.Search.{pairOf, Reduced, Turning, Row, wider, Finds};
 
 // What the search settles on: the reference's index, counted from 0, and B raised by H.

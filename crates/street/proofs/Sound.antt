@@ -6,7 +6,8 @@ use Rattle.circle.proofs.Formulas.{Agree}
 use Rattle.road.proofs.Paved.{getD-padded, paved}
 use Rattle.street.specs.Lists.{Lists, signals}
 use Rattle.street.specs.Checks.{planChecks}
-use Rattle.street.specs.Streets.{streetOf, surveyed, surveyedAs, timed, timedStreet, Sound}
+use Rattle.street.specs.Streets.{timed}
+use Rattle.street.specs.Steps.{streetOf, surveyed, surveyedAs, timedStreet, Sound}
 use Rattle.street.specs.declared.Street.{Street}
 use Rattle.street.specs.declared.Surveyed.{Surveyed}
 use Rattle.street.specs.declared.Verdict.{Verdict}

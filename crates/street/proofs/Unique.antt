@@ -2,7 +2,7 @@
 use Prim.Native.Nat.{ℕ}
 use mathlib.Core.Path.{_≡_, sym, _∙_}
 use Rattle.street.specs.Lists.{Lists}
-use Rattle.street.specs.Streets.{surveyed}
+use Rattle.street.specs.Steps.{surveyed}
 use Rattle.street.specs.declared.Surveyed.{Surveyed}
 
 pub new-unique : (l : Lists) (room : ℕ) (r r′ : Surveyed) → r ≡ surveyed l room → r′ ≡ surveyed l room → r ≡ r′

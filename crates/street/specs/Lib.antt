@@ -3,3 +3,4 @@ pub mod Lists
 pub mod Codes
 pub mod Checks
 pub mod Streets
+pub mod Steps

@@ -1,5 +1,5 @@
 -- The limits of what a street has beside its road (01, 'Units and the street'). The code's associated constants are proved equal to these and to the road's.
-use Prim.Native.Nat.{ℕ, _*_}
+use Prim.Native.Nat.{ℕ}
 
 -- the cycle, in ticks
 abbrev pub minCycle : ℕ
@@ -7,10 +7,6 @@ minCycle = 10
 
 abbrev pub maxCycle : ℕ
 maxCycle = 6000
-
--- the cycle in halves
-abbrev pub maxHalves : ℕ
-maxHalves = 2 * maxCycle
 
 -- a red, in ticks; it is also below the cycle
 abbrev pub minRed : ℕ

@@ -12,7 +12,7 @@ ghost use Rattle.street.specs.Limits.{minCycle, maxCycle, minRed, maxPla
 ghost use Rattle.street.specs.Lists.{typed};
 ghost use Rattle.street.specs.Codes.{codeNumber};
 ghost use Rattle.street.specs.Checks.{refuse};
-ghost use Rattle.street.specs.Streets.{surveyed};
+ghost use Rattle.street.specs.Steps.{surveyed};
 
 // The refusals of document 01, in the order of its table; `code_number` answers the number of each.
 pub enum Code {

@@ -11,9 +11,9 @@ use Rattle.circle.specs.Signed.{orZero}
 use Rattle.circle.specs.Method.{Timed, halves}
 use Rattle.circle.specs.Moved.{g, inRange, platoonWidth}
 use Rattle.circle.proofs.Formulas.{Fit, B⁺, B⁺-is, g-is, green-le, asked, asked-green, Agree, equalWidth-agree, platoon-le, inRange-agree, otherWidth-agree, platoonWidth-agree}
-use Rattle.street.specs.Limits.{maxCycle, maxHalves, maxPlatoon}
+use Rattle.street.specs.Limits.{maxCycle, maxPlatoon}
 use Rattle.street.specs.Checks.{unless, refuse, orNext}
-use Rattle.street.specs.Streets.{Sound}
+use Rattle.street.specs.Steps.{maxHalves, Sound}
 use Rattle.street.specs.declared.Code.the-variants.{Width, Platoon}
 use Rattle.street.specs.declared.Verdict.the-variants.{Passed}
 use Rattle.street.proofs.CheckLaws.{passes}

@@ -5,7 +5,7 @@ use mathlib.Core.Path.{_≡_}
 use lib.Dec.{ltb, eqb}
 use Rattle.circle.specs.Method.{Timed, B, equalWidth}
 use Rattle.circle.specs.Moved.{otherWidth, platoonWidth}
-use Rattle.street.specs.Streets.{Sound}
+use Rattle.street.specs.Steps.{Sound}
 use Rattle.search.specs.Search.{signedOf}
 use Rattle.widths.specs.declared.Request.{Request}
 use Rattle.widths.specs.declared.Request.the-variants as request

@@ -7,8 +7,8 @@ ghost use mathlib.Core.Path.{_≡_};
 ghost use Prim.Native.Nat.{_*_, _/_, _≤_, _<_, _^_};
 ghost use lib.IntN.{pos};
 ghost use Rattle.circle.specs.Moved.{g, otherWidth, platoonWidth};
-ghost use Rattle.street.specs.Limits.{maxHalves, maxPlatoon};
-ghost use Rattle.street.specs.Streets.{timedStreet, Sound};
+ghost use Rattle.street.specs.Limits.{maxPlatoon};
+ghost use Rattle.street.specs.Steps.{maxHalves, timedStreet, Sound};
 ghost use Rattle.widths.specs.Moved.{Raised, platoonShift, shiftOf, shiftWidth, widthsOf};
 ghost use Rattle.widths.specs.Checks.{platoonCheck, widthCheck, requestCheck};
 

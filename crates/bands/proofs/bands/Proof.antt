@@ -2,7 +2,7 @@
 use native.Mathlib.Omega.{arith}
 use borrow.Author.Needs.{needs}
 use Rattle.circle.specs.Method.{Timed}
-use Rattle.street.specs.Streets.{timedStreet}
+use Rattle.street.specs.Steps.{timedStreet}
 use Rattle.bands.specs.declared.Direction.the-variants.{Outbound, Inbound}
 use Rattle.bands.proofs.SearchLaws.{fitting}
 use Rattle.bands.proofs.MeasureLaws.{ends-on, band-way}

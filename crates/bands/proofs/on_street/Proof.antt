@@ -1,7 +1,7 @@
 -- `bands::on_street` meets its contract: the offsets' check tells whether each lies on the cycle, and the answer goes by its verdict. Assumes nothing.
 use mathlib.Core.Path.{sym, ap, _∙_}
 use borrow.Author.Needs.{needs}
-use Rattle.street.specs.Streets.{timedStreet}
+use Rattle.street.specs.Steps.{timedStreet}
 use Rattle.bands.specs.Measure.{measuredOf, foundOr}
 use Rattle.bands.specs.declared.Measurement.the-variants as measurement
 use Rattle.bands.proofs.CheckLaws.{placed-on}

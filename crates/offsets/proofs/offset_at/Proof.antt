@@ -3,7 +3,8 @@ use Prim.Native.Nat.{_+_, _*_, _≤_}
 use mathlib.Core.Path.{ap}
 use native.Mathlib.Omega.{arith}
 use borrow.Author.Needs.{needs}
-use Rattle.street.specs.Limits.{maxCycle, maxHalves}
+use Rattle.street.specs.Limits.{maxCycle}
+use Rattle.street.specs.Steps.{maxHalves}
 use Rattle.widths.specs.Moved.{shiftWidth}
 use Rattle.offsets.proofs.OffsetLaws.{choice-small, lowering-small, offset-parts}
 use Rattle.offsets.proofs.offset_at.Statement.{statement}

@@ -9,7 +9,7 @@ use Rattle.circle.specs.Method.{Timed}
 use Rattle.circle.specs.Over.{listBelow}
 use Rattle.circle.proofs.Numbers.{fill-store}
 use Rattle.road.specs.Limits.{maxSignals}
-use Rattle.street.specs.Streets.{timedBy}
+use Rattle.street.specs.Steps.{timedBy}
 use Rattle.search.proofs.Pairs.{place-lt}
 use Rattle.offsets.specs.Moved.{movedOffset}
 use Rattle.offsets.proofs.OffsetLaws.{ready-lt, side-small, offset-at-is}

@@ -9,7 +9,7 @@ use mir.Val.{toZ, ofZ}
 use Rattle.circle.specs.Method.{B, reference, redEnd, redStart}
 use Rattle.circle.proofs.Formulas.{reference-lt}
 use Rattle.street.specs.Limits.{maxCycle}
-use Rattle.street.specs.Streets.{timedStreet}
+use Rattle.street.specs.Steps.{timedStreet}
 use Rattle.offsets.proofs.OffsetLaws.{moved-lt, red-end-man, red-start-man}
 use Rattle.plans.proofs.SignedLaws.{reread}
 use Rattle.plans.proofs.numbers.Statement.{statement}

@@ -7,10 +7,9 @@ use native.Mathlib.Omega.{arith}
 use lib.ListN.{length}
 use borrow.Author.Needs.{needs}
 use Rattle.road.specs.Limits.{maxSignals}
-use Rattle.street.specs.Limits.{maxHalves}
 use Rattle.street.specs.Lists.{Lists, typed}
 use Rattle.street.specs.Checks.{planChecks}
-use Rattle.street.specs.Streets.{streetOf, timedStreet, Sound}
+use Rattle.street.specs.Steps.{maxHalves, streetOf, timedStreet, Sound}
 use Rattle.street.specs.declared.Surveyed.{Surveyed}
 use Rattle.street.specs.declared.Verdict.the-variants.{Passed}
 use Rattle.street.proofs.Sound.{verdict-checks, passed-street, passed-sound}

@@ -10,7 +10,7 @@ use borrow.Author.Count.{below-none}
 use borrow.Author.Needs.{needs}
 use Rattle.circle.proofs.Formulas.{b⁺}
 use Rattle.road.specs.Limits.{maxSignals}
-use Rattle.street.specs.Streets.{timedWith, Sound}
+use Rattle.street.specs.Steps.{timedWith, Sound}
 use Rattle.search.proofs.Leading.{settled, Leading, leads-first, leads-new, leads-still, row-set, fit-sound, candidate-is}
 use Rattle.search.specs.Search.{Row, Reduced, Turning, Finds}
 use Rattle.search.proofs.reference.Statement.{statement}

@@ -1,7 +1,7 @@
 -- `widths::check` meets its contract: each request's check is that of its arm. Assumes nothing.
 use mathlib.Core.Path.{sym, ap, _∙_}
 use borrow.Author.Needs.{needs}
-use Rattle.street.specs.Streets.{timedStreet}
+use Rattle.street.specs.Steps.{timedStreet}
 use Rattle.widths.specs.Checks.{requestCheck}
 use Rattle.widths.proofs.check.Statement.{statement}
 use Rattle.widths.proofs.check.Tie as tie

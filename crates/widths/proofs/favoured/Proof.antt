@@ -1,6 +1,6 @@
 -- `widths::favoured` meets its contract: the two tests pick the longer platoon's direction. Assumes nothing.
 use borrow.Author.Needs.{needs}
-use Rattle.street.specs.Streets.{timedStreet}
+use Rattle.street.specs.Steps.{timedStreet}
 use Rattle.widths.proofs.WidthLaws.{favours-neither, favours-outbound, favours-inbound}
 use Rattle.widths.proofs.favoured.Statement.{statement}
 use Rattle.widths.proofs.favoured.Tie as tie

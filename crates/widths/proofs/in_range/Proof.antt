@@ -5,7 +5,7 @@ use native.Mathlib.Omega.{arith}
 use borrow.Author.Needs.{needs}
 use Rattle.circle.specs.Method.{Timed}
 use Rattle.circle.proofs.Formulas.{Fit, green, green-is, green-le, asked-green, outside, within}
-use Rattle.street.specs.Streets.{timedStreet}
+use Rattle.street.specs.Steps.{timedStreet}
 use Rattle.search.proofs.Leading.{fit-sound}
 use Rattle.widths.proofs.WidthLaws.{raised-is, check-is}
 use Rattle.widths.proofs.in_range.Statement.{statement}

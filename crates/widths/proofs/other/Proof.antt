@@ -2,7 +2,7 @@
 use native.Mathlib.Omega.{arith}
 use borrow.Author.Needs.{needs}
 use Rattle.circle.proofs.Formulas.{other-width}
-use Rattle.street.specs.Streets.{timedStreet}
+use Rattle.street.specs.Steps.{timedStreet}
 use Rattle.search.proofs.Leading.{fit-sound}
 use Rattle.widths.proofs.WidthLaws.{raised-is}
 use Rattle.widths.proofs.other.Statement.{statement}

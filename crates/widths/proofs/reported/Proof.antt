@@ -5,7 +5,7 @@ use native.Mathlib.Omega.{arith}
 use borrow.Author.Needs.{needs}
 use Rattle.circle.specs.Method.{equalWidth}
 use Rattle.circle.proofs.Formulas.{equal-width}
-use Rattle.street.specs.Streets.{timedStreet}
+use Rattle.street.specs.Steps.{timedStreet}
 use Rattle.search.proofs.Leading.{fit-sound}
 use Rattle.widths.specs.Moved.{shiftWidth, widthsOf}
 use Rattle.widths.specs.declared.Widths.{Widths}

@@ -1,7 +1,7 @@
 -- `widths::settle` meets its contract: each request's shift is that of its arm; platoons that passed are short enough. Assumes nothing.
 use mathlib.Core.Path.{sym, ap, _∙_}
 use borrow.Author.Needs.{needs}
-use Rattle.street.specs.Streets.{timedStreet}
+use Rattle.street.specs.Steps.{timedStreet}
 use Rattle.widths.specs.Moved.{shiftOf}
 use Rattle.widths.specs.Checks.{requestCheck}
 use Rattle.widths.proofs.WidthLaws.{platoons-short}

@@ -5,7 +5,7 @@ use native.Mathlib.Omega.{arith}
 use borrow.Author.Needs.{needs}
 use Rattle.circle.specs.Method.{Timed, halves}
 use Rattle.circle.proofs.Formulas.{Fit, B⁺, green, green-is, platoons-fit, platoons-crowd, platoons-rest}
-use Rattle.street.specs.Streets.{timedStreet}
+use Rattle.street.specs.Steps.{timedStreet}
 use Rattle.search.proofs.Leading.{fit-sound}
 use Rattle.widths.proofs.WidthLaws.{raised-is, product-fits}
 use Rattle.widths.proofs.share.Statement.{statement}

@@ -8,7 +8,7 @@ use borrow.Author.Needs.{needs}
 use Rattle.road.specs.Steps.{roadOf, laid}
 use Rattle.street.specs.Lists.{Lists, typed}
 use Rattle.street.specs.Checks.{planChecks}
-use Rattle.street.specs.Streets.{streetOf, noStreet, surveyed}
+use Rattle.street.specs.Steps.{streetOf, noStreet, surveyed}
 use Rattle.street.specs.declared.Refusal.{Refusal}
 use Rattle.street.specs.declared.Street.{Street}
 use Rattle.street.specs.declared.Surveyed.{Surveyed}
