@@ -20,7 +20,7 @@ use Rattle.street.specs.declared.Verdict.{Verdict}
 use Rattle.street.proofs.CheckLaws.{last-check}
 use Rattle.street.proofs.Passed.{first-of-both, no-fault}
 use Rattle.street.specs.declared.Verdict.the-variants as verdict
-use Rattle.bands.specs.Search.{Placed}
+use Rattle.bands.specs.Steps.{Placed}
 use Rattle.bands.specs.Measure.{sizeCheck, badOffset, offsetCheck, measureChecks}
 
 -- a count's fault is one refusal, whichever list it is of

@@ -23,7 +23,7 @@ use Rattle.stretches.specs.declared.Band.{Band}
 use Rattle.stretches.specs.Stretches.{bandOf}
 use Rattle.bands.specs.declared.Direction.{Direction}
 use Rattle.bands.specs.declared.Measurement.{Measurement}
-use Rattle.bands.specs.Search.{lagOf, Ended, seen}
+use Rattle.bands.specs.Steps.{lagOf, Ended, seen}
 use Rattle.bands.specs.Measure.{offsetCheck, measuredOf, foundOr, measurementOf}
 use Rattle.bands.specs.declared.Measurement.the-variants as measurement
 use Rattle.bands.proofs.SearchLaws.{OnCycle, seen-alike, band-alike}

@@ -11,8 +11,9 @@ use Rattle.circle.specs.Bands.{Way, width}
 use Rattle.circle.proofs.Numbers.{man-lt, man-is, man-turns}
 use Rattle.circle.proofs.Stretches.{past, Alike, width-alike, start-alike}
 use Rattle.street.specs.Steps.{Sound}
-use Rattle.stretches.specs.Stretches.{Fitting, bandOf}
-use Rattle.bands.specs.Search.{seen}
+use Rattle.stretches.specs.Stretches.{bandOf}
+use Rattle.stretches.specs.Steps.{Fitting}
+use Rattle.bands.specs.Steps.{seen}
 
 -- an instant on the cycle for each signal, from 0 to H - 1
 pub record OnCycle (s : Timed) (ends : List ℕ) : Type 0 where

@@ -7,7 +7,7 @@ ghost use Prim.Native.Nat.{_≤_};
 ghost use lib.ListN.{length};
 ghost use Rattle.road.specs.Steps.{maxTime};
 ghost use Rattle.street.specs.Steps.{timedBy, Sound};
-ghost use Rattle.bands.specs.Search.{lagBy, Placed, Ended};
+ghost use Rattle.bands.specs.Steps.{lagBy, Placed, Ended};
 
 // How long after its departure a car is at a signal, in halves. Outbound it departs at signal 1, inbound at signal n, whose inbound
 // time is `last`.

@@ -14,7 +14,7 @@ ghost use Rattle.road.specs.Limits.{maxSignals};
 ghost use Rattle.street.specs.Limits.{maxCycle};
 ghost use Rattle.street.specs.Lists.{typed};
 ghost use Rattle.street.specs.Steps.{timedStreet, Sound};
-ghost use Rattle.bands.specs.Search.{Placed};
+ghost use Rattle.bands.specs.Steps.{Placed};
 ghost use Rattle.bands.specs.Measure.{offsetCheck, measuredOf, foundOr, measurementOf};
 
 // Both directions' bands under given offsets.

@@ -15,7 +15,7 @@ ghost use Prim.Native.Nat.{_≤_};
 ghost use mathlib.Core.Path.{_≡_};
 ghost use lib.ListN.{length};
 ghost use Rattle.printed.specs.Way.{Held};
-ghost use Rattle.lines.specs.Lines.{maxEntries};
+ghost use Rattle.lines.specs.Steps.{maxEntries};
 
 // The most bytes that one run takes.
 const MAX_INPUT: usize = 65_536;

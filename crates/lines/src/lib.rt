@@ -4,7 +4,7 @@ use widths::Request;
 ghost use Prim.Native.Nat.{_≤_};
 ghost use lib.ListN.{length};
 ghost use mathlib.Core.Path.{_≡_};
-ghost use Rattle.lines.specs.Lines.{maxEntries};
+ghost use Rattle.lines.specs.Steps.{maxEntries};
 
 // What a line asks for: a plan, or the measure of its numbers as offsets. A line that is not served is bad.
 pub enum Call {

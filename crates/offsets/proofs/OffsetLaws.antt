@@ -19,10 +19,10 @@ use Rattle.circle.proofs.Formulas.{reference-lt, Fit, B⁺, phase-test, outboun
 use Rattle.circle.proofs.Stretches.{offset-turns}
 use Rattle.road.specs.Steps.{maxTime}
 use Rattle.street.specs.Steps.{Sound}
-use Rattle.search.specs.Search.{pairOf}
+use Rattle.search.specs.Steps.{pairOf}
 use Rattle.search.proofs.Pairs.{Pair, pair-widths}
 use Rattle.search.proofs.Leading.{fit-sound}
-use Rattle.widths.specs.Moved.{shiftWidth}
+use Rattle.widths.specs.Steps.{shiftWidth}
 use Rattle.widths.specs.declared.Shift.{Shift}
 use Rattle.widths.specs.declared.Shift.the-variants.{Unmoved, Outbound, Inbound}
 use Rattle.widths.proofs.WidthLaws.{raised-is}

@@ -1,4 +1,4 @@
--- What the functions of this crate say of their numbers, in the method's terms.
+-- What the functions of this crate say to each other and to proofs; no contract of a public call cites it.
 use Prim.Native.Nat.{ℕ, _+_, _-_, _*_}
 use mathlib.Core.Bool.{cond, Bool}
 use mathlib.Core.Path.{_≡_}
@@ -8,10 +8,10 @@ use lib.IntN.{pos, _-ℤ_}
 use lib.ListN.{getD}
 use Rattle.circle.specs.Method.{Timed, reference}
 use Rattle.circle.specs.Man.{man}
-use Rattle.search.specs.Search.{Reduced, pairOf}
+use Rattle.search.specs.Steps.{Reduced, pairOf}
 use Rattle.widths.specs.declared.Shift.{Shift}
 use Rattle.widths.specs.declared.Shift.the-variants.{Unmoved, Outbound, Inbound}
-use Rattle.widths.specs.Moved.{Raised}
+use Rattle.widths.specs.Steps.{Raised}
 use Rattle.offsets.specs.declared.Choice.{Choice}
 
 -- what a plan is made from: a sound street, its signals' places on the cycle, its reference and its B

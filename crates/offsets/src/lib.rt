@@ -10,7 +10,7 @@ ghost use Rattle.circle.specs.Over.{listBelow};
 ghost use Rattle.road.specs.Steps.{maxTime};
 ghost use Rattle.street.specs.Limits.{maxCycle};
 ghost use Rattle.street.specs.Steps.{maxHalves, timedBy};
-ghost use Rattle.widths.specs.Moved.{shiftWidth};
+ghost use Rattle.widths.specs.Steps.{shiftWidth};
 ghost use Rattle.offsets.specs.Moved.{movedOffset};
 ghost use Rattle.offsets.specs.Steps.{Ready, choiceOf, loweringOf, offsetAt};
 

@@ -13,7 +13,7 @@ ghost use Rattle.street.specs.Lists.{typed};
 ghost use Rattle.street.specs.Steps.{maxHalves, timedStreet};
 ghost use Rattle.offsets.specs.Moved.{movedOffset};
 ghost use Rattle.plans.specs.Requests.{movedPlan, Requested};
-ghost use Rattle.widths.specs.Moved.{Raised, shiftWidth};
+ghost use Rattle.widths.specs.Steps.{Raised, shiftWidth};
 
 // A plan's numbers. The reference c is counted from 1. B and the widths are in halves, and B can be negative. `rounded` is m,
 // the number of links with a rounded time. `starts` and `ends` are instants at c, from 0 to H - 1: where the named outbound band

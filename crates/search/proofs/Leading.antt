@@ -14,7 +14,7 @@ use Rattle.circle.proofs.Numbers.Over.{maxBelow}
 use Rattle.circle.proofs.Formulas.{Fit, larger-raised, b⁺-le, top, B-raised, reference-is}
 use Rattle.circle.proofs.Formulas.Raised.{b⁺}
 use Rattle.street.specs.Steps.{timedWith, Sound}
-use Rattle.search.specs.Search.{signedOf, Row, wider, Reduced, Turning, Searched}
+use Rattle.search.specs.Steps.{signedOf, Row, wider, Reduced, Turning, Searched}
 use Rattle.search.proofs.Pairs.{Pair, pair-widths, place-lt}
 
 module _ (s : Timed) (fit : Fit s) where

@@ -10,7 +10,7 @@ use Rattle.circle.specs.Man.{man}
 use Rattle.circle.specs.Method.{Timed, halves}
 use Rattle.circle.proofs.Numbers.{man-lt, man-step, minus-minus}
 use Rattle.circle.proofs.Formulas.{u-reduced, raised}
-use Rattle.search.specs.Search.{place, pairOf, Reduced}
+use Rattle.search.specs.Steps.{place, pairOf, Reduced}
 
 -- a pair's two numbers, from the two remainders that the code takes one after the other
 pub pair-is : (cycle from to red even odd : ℕ) → 1 ≤ cycle → even ≡ man (2 * cycle) (pos from -ℤ pos to) → odd ≡ man (2 * cycle) (pos even -ℤ pos cycle) →

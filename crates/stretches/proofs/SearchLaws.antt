@@ -15,7 +15,8 @@ use Rattle.circle.specs.Bands.{Way, width}
 use Rattle.circle.proofs.Numbers.{man-is, man-turns, minBelow, min-more}
 use Rattle.circle.proofs.Stretches.{since, Proper, longest, left, endAt, since-end, from, Best, best-wider, best-sooner, best-stays, best-band}
 use Rattle.stretches.specs.declared.Band.{Band}
-use Rattle.stretches.specs.Stretches.{Fitting, seenBy, leftBy, widerOf, bandOf}
+use Rattle.stretches.specs.Stretches.{bandOf}
+use Rattle.stretches.specs.Steps.{Fitting, seenBy, leftBy, widerOf}
 
 -- the wider of two bands, from the code's tests
 pub wider-other : (a b : Band) → a .width < b .width → b ≡ widerOf a b

@@ -7,7 +7,8 @@ ghost use lib.ListN.{getD};
 ghost use Rattle.road.specs.Limits.{maxSignals};
 ghost use Rattle.street.specs.Limits.{maxCycle};
 ghost use Rattle.street.specs.Steps.{maxHalves};
-ghost use Rattle.stretches.specs.Stretches.{bandOf, Fitting, seenBy, leftBy, longestFrom, widerOf};
+ghost use Rattle.stretches.specs.Stretches.{bandOf};
+ghost use Rattle.stretches.specs.Steps.{Fitting, seenBy, leftBy, longestFrom, widerOf};
 
 // A direction's band, in halves: its width, and the smallest start that attains it, an instant at signal 1 outbound and at
 // signal n inbound. A width of 0 has start 0.

@@ -21,7 +21,8 @@ use Rattle.street.proofs.Passed.{first-passed, rest-passed}
 use Rattle.street.specs.declared.Verdict.the-variants as verdict
 use Rattle.search.proofs.Leading.{fit-sound}
 use Rattle.widths.specs.Checks.{widthCheck, lengthCheck, platoonCheck, requestCheck}
-use Rattle.widths.specs.Moved.{Raised, platoonShift, shiftOf, outboundWidth, inboundWidth, shiftWidth}
+use Rattle.widths.specs.Moved.{platoonShift, shiftOf, outboundWidth, inboundWidth}
+use Rattle.widths.specs.Steps.{Raised, shiftWidth}
 use Rattle.widths.specs.declared.Request.{Request}
 use Rattle.widths.specs.declared.Shift.{Shift}
 use Rattle.widths.specs.declared.Shift.the-variants.{Unmoved, Outbound, Inbound}

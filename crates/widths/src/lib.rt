@@ -9,7 +9,8 @@ ghost use lib.IntN.{pos};
 ghost use Rattle.circle.specs.Moved.{g, otherWidth, platoonWidth};
 ghost use Rattle.street.specs.Limits.{maxPlatoon};
 ghost use Rattle.street.specs.Steps.{maxHalves, timedStreet, Sound};
-ghost use Rattle.widths.specs.Moved.{Raised, platoonShift, shiftOf, shiftWidth, widthsOf};
+ghost use Rattle.widths.specs.Moved.{platoonShift, shiftOf};
+ghost use Rattle.widths.specs.Steps.{Raised, shiftWidth, widthsOf};
 ghost use Rattle.widths.specs.Checks.{platoonCheck, widthCheck, requestCheck};
 
 // What a caller asks for: the equal plan, a width for one direction, or widths by the platoons' lengths, outbound and then inbound. All

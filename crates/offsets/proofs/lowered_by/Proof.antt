@@ -2,7 +2,7 @@
 use mathlib.Core.Path.{sym, ap, _∙_}
 use native.Mathlib.Omega.{arith}
 use borrow.Author.Needs.{needs}
-use Rattle.widths.specs.Moved.{shiftWidth}
+use Rattle.widths.specs.Steps.{shiftWidth}
 use Rattle.offsets.specs.Steps.{loweringOf}
 use Rattle.offsets.proofs.lowered_by.Statement.{statement}
 use Rattle.offsets.proofs.lowered_by.Tie as tie

@@ -5,7 +5,7 @@ use native.Mathlib.Omega.{arith}
 use borrow.Author.Needs.{needs}
 use Rattle.street.specs.Limits.{maxCycle}
 use Rattle.street.specs.Steps.{maxHalves}
-use Rattle.widths.specs.Moved.{shiftWidth}
+use Rattle.widths.specs.Steps.{shiftWidth}
 use Rattle.offsets.proofs.OffsetLaws.{choice-small, lowering-small, offset-parts}
 use Rattle.offsets.proofs.offset_at.Statement.{statement}
 use Rattle.offsets.proofs.offset_at.Tie as tie

@@ -15,7 +15,7 @@ use Rattle.street.specs.declared.Verdict.the-variants.{Passed}
 use Rattle.street.proofs.Sound.{verdict-checks, passed-street, passed-sound}
 use Rattle.search.proofs.Leading.{turning}
 use Rattle.widths.specs.Checks.{requestCheck}
-use Rattle.widths.specs.Moved.{shiftWidth}
+use Rattle.widths.specs.Steps.{shiftWidth}
 use Rattle.widths.proofs.WidthLaws.{shift-small}
 use Rattle.offsets.specs.Steps.{Ready}
 use Rattle.offsets.proofs.OffsetLaws.{ready-lt, own-written}

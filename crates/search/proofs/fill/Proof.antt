@@ -7,7 +7,7 @@ use lib.ListN.{length, length-set, drop, getD}
 use borrow.Author.Needs.{needs}
 use Rattle.circle.specs.Over.{listBelow}
 use Rattle.circle.proofs.Numbers.{fill-store, getD-listBelow}
-use Rattle.search.specs.Search.{pairOf}
+use Rattle.search.specs.Steps.{pairOf}
 use Rattle.search.proofs.fill.Statement.{statement}
 use Rattle.search.proofs.fill.Tie as tie
 

@@ -9,7 +9,7 @@ use borrow.Author.Needs.{needs}
 use Rattle.circle.specs.Over.{leastBelow}
 use Rattle.circle.specs.Signed.{leℤ, minℤ}
 use Rattle.circle.proofs.Numbers.{pos-min, least-more}
-use Rattle.search.specs.Search.{wider}
+use Rattle.search.specs.Steps.{wider}
 use Rattle.search.proofs.least.Statement.{statement}
 use Rattle.search.proofs.least.Tie as tie
 

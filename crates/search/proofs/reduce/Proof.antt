@@ -9,7 +9,7 @@ use Rattle.circle.specs.Method.{Timed}
 use Rattle.circle.specs.Over.{listBelow}
 use Rattle.circle.proofs.Numbers.{fill-store, getD-listBelow}
 use Rattle.street.specs.Steps.{timedBy}
-use Rattle.search.specs.Search.{place}
+use Rattle.search.specs.Steps.{place}
 use Rattle.search.proofs.reduce.Statement.{statement}
 use Rattle.search.proofs.reduce.Tie as tie
 

@@ -12,7 +12,7 @@ use Rattle.circle.proofs.Formulas.{b⁺}
 use Rattle.road.specs.Limits.{maxSignals}
 use Rattle.street.specs.Steps.{timedWith, Sound}
 use Rattle.search.proofs.Leading.{settled, Leading, leads-first, leads-new, leads-still, row-set, fit-sound, candidate-is}
-use Rattle.search.specs.Search.{Row, Reduced, Turning, Finds}
+use Rattle.search.specs.Steps.{Row, Reduced, Turning, Finds}
 use Rattle.search.proofs.reference.Statement.{statement}
 use Rattle.search.proofs.reference.Tie as tie
 

@@ -8,7 +8,7 @@ use lib.ListN.{getD}
 use borrow.Author.Needs.{needs}
 use Rattle.circle.proofs.Numbers.Over.{minBelow}
 use Rattle.circle.proofs.Stretches.{left, longest-least}
-use Rattle.stretches.specs.Stretches.{seenBy}
+use Rattle.stretches.specs.Steps.{seenBy}
 use Rattle.stretches.proofs.SearchLaws.{least-lower, least-still, proper-seen, left-seen}
 use Rattle.stretches.proofs.longest.Statement.{statement}
 use Rattle.stretches.proofs.longest.Tie as tie

@@ -6,7 +6,7 @@ use native.Mathlib.Omega.{arith}
 use lib.ListN.{getD}
 use borrow.Author.Needs.{needs}
 use Rattle.circle.proofs.Stretches.{Best, best-none}
-use Rattle.stretches.specs.Stretches.{Fitting, seenBy, longestFrom}
+use Rattle.stretches.specs.Steps.{Fitting, seenBy, longestFrom}
 use Rattle.stretches.proofs.SearchLaws.{more-seen, best-seen}
 use Rattle.stretches.proofs.widest.Statement.{statement}
 use Rattle.stretches.proofs.widest.Tie as tie

@@ -7,7 +7,7 @@ use Rattle.circle.specs.Method.{equalWidth}
 use Rattle.circle.proofs.Formulas.{equal-width}
 use Rattle.street.specs.Steps.{timedStreet}
 use Rattle.search.proofs.Leading.{fit-sound}
-use Rattle.widths.specs.Moved.{shiftWidth, widthsOf}
+use Rattle.widths.specs.Steps.{shiftWidth, widthsOf}
 use Rattle.widths.specs.declared.Widths.{Widths}
 use Rattle.widths.proofs.WidthLaws.{raised-is}
 use Rattle.widths.proofs.reported.Statement.{statement}

@@ -12,7 +12,7 @@ use Rattle.circle.specs.Method.{Timed, halves}
 use Rattle.circle.specs.Over.{listBelow}
 use Rattle.circle.proofs.Numbers.{fill-store, getD-listBelow}
 use Rattle.street.specs.Steps.{timedBy}
-use Rattle.bands.specs.Search.{endOf}
+use Rattle.bands.specs.Steps.{endOf}
 use Rattle.bands.proofs.ends.ends.Statement.{statement}
 use Rattle.bands.proofs.ends.ends.Tie as tie
 

@@ -1,7 +1,7 @@
 -- `bands::ends::lag` meets its contract: each arm is its direction's lag, and the times are small enough to be doubled. Assumes nothing.
 use mathlib.Core.Path.{sym, ap}
 use borrow.Author.Needs.{needs}
-use Rattle.bands.specs.Search.{lagBy}
+use Rattle.bands.specs.Steps.{lagBy}
 use Rattle.bands.proofs.ends.lag.Statement.{statement}
 use Rattle.bands.proofs.ends.lag.Tie as tie
 

@@ -1,5 +1,5 @@
--- What the search's own functions say of their numbers, in the method's terms. The search keeps widths raised by the cycle H, so that none is negative: a raised
--- number less H is the signed one.
+-- What the functions of this crate say to each other and to proofs; no contract of a public call cites it.
+-- The search keeps widths raised by the cycle H, so that none is negative: a raised number less H is the signed one.
 use Prim.Native.Nat.{ℕ, _+_, _-_, _*_, _≤_, _<_, max}
 use mathlib.Core.Path.{_≡_}
 use mathlib.Core.List.{List, [], _∷_}

@@ -1,4 +1,4 @@
--- The size of a request line's lists.
+-- What the functions of this crate say to each other and to proofs; no contract of a public call cites it.
 use Prim.Native.Nat.{ℕ}
 
 -- the longest lent list that a line may name, and the most of its numbers that are kept

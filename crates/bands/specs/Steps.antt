@@ -1,4 +1,5 @@
--- What the search's own functions say of their numbers. A direction is its lags; seen from where it departs, a street is its reds' lengths and the instants at which they end.
+-- What the functions of this crate say to each other and to proofs; no contract of a public call cites it.
+-- A direction is its lags; seen from where it departs, a street is its reds' lengths and the instants at which they end.
 use Prim.Native.Nat.{ℕ, _+_, _-_, _*_, _<_}
 use mathlib.Core.Path.{_≡_}
 use mathlib.Core.List.{List}
@@ -7,7 +8,7 @@ use lib.ListN.{length, getD}
 use Rattle.circle.specs.Man.{man}
 use Rattle.circle.specs.Method.{Timed, halves}
 use Rattle.circle.specs.Bands.{Way}
-use Rattle.stretches.specs.Stretches.{seenBy}
+use Rattle.stretches.specs.Steps.{seenBy}
 use Rattle.bands.specs.declared.Direction.{Direction}
 use Rattle.bands.specs.declared.Direction.the-variants.{Outbound, Inbound}
 
