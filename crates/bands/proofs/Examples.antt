@@ -15,23 +15,23 @@ use Rattle.street.specs.Checks.{countCheck, cycleCheck, redCheck, distanceCheck
 use Rattle.street.specs.Streets.{timed}
 use Rattle.street.specs.declared.Verdict.the-variants.{Passed}
 use Rattle.stretches.specs.declared.Band.{Band}
-use Rattle.bands.specs.Measure.{Numbers, numbersOf, sizeCheck, offsetCheck, measureChecks, measuredOf, foundOr, measurementOf}
+use Rattle.bands.specs.Measure.{BandNumbers, bandNumbers, sizeCheck, offsetCheck, measureChecks, measuredOf, foundOr, measurementOf}
 
 -- a width and its start
 abbrev band : ℕ → ℕ → Band
 band width start = record { width = width; start = start }
 
-abbrev found : Band → Band → Numbers
+abbrev found : Band → Band → BandNumbers
 found outbound inbound = record { code = 0; place = 0; outbound = outbound; inbound = inbound }
 
-abbrev refused : ℕ → ℕ → Numbers
+abbrev refused : ℕ → ℕ → BandNumbers
 refused code place = record { code = code; place = place; outbound = band 0 0; inbound = band 0 0 }
 
 -- a street's lists, offsets, and the numbers that they are answered with
 record Row : Type 0 where
   lists : Lists
   offsets : List ℕ
-  numbers : Numbers
+  numbers : BandNumbers
 
 -- two signals with one red, one length of link and one speed either way, on a cycle of 10 ticks
 abbrev pair : ℕ → ℕ → Lists
@@ -47,7 +47,7 @@ rows =
     ∷ record { lists = typed 0 (5 ∷ []) (0 ∷ []) [] []; offsets = 0 ∷ 2 ∷ []; numbers = refused 2 0 }
     ∷ []
 
-answers : map (λ (r : Row). numbersOf (measurementOf (r .lists) (r .offsets))) rows ≡ map (λ (r : Row). r .numbers) rows
+answers : map (λ (r : Row). bandNumbers (measurementOf (r .lists) (r .offsets))) rows ≡ map (λ (r : Row). r .numbers) rows
 unfolding rows measureChecks countCheck sizeCheck cycleCheck redCheck distanceCheck speedCheck offsetCheck firstBelow sumBelow width bandStart greatestUpTo allBelow stretch clear redStart
 answers = refl
 
@@ -94,9 +94,9 @@ checks-pass : measureChecks streetA offsetsA ≡ Passed
 unfolding measureChecks countCheck sizeCheck cycleCheck redCheck distanceCheck speedCheck offsetCheck firstBelow
 checks-pass = refl
 
-pub row14 : numbersOf (measurementOf streetA offsetsA) ≡ found (band 60 40) (band 60 60)
+pub row14 : bandNumbers (measurementOf streetA offsetsA) ≡ found (band 60 40) (band 60 60)
 row14 =
-    ap (λ v. numbersOf (foundOr v (measuredOf (timed streetA) offsetsA))) checks-pass
+    ap (λ v. bandNumbers (foundOr v (measuredOf (timed streetA) offsetsA))) checks-pass
     ∙ (λ i.
     found
     (band (sym (out-band .wide) i) (sym (out-band .starts) i))

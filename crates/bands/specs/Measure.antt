@@ -50,15 +50,15 @@ measuredOf s offsets =
 
 -- a call's answer by the verdict of its checks: the refusal, or the measure where they passed (01, 'Codes, in order of checking')
 abbrev pub foundOr : Verdict → Measured → Measurement
-foundOr verdict.Passed m = measurement.Found m
-foundOr (verdict.Refused f) m = measurement.Refused f
+foundOr verdict.Passed measured = measurement.Found measured
+foundOr (verdict.Refused f) measured = measurement.Refused f
 
 -- the answer to a street's lists and offsets: the first fault there is, or the bands at rounded times (01, 'Measuring')
 abbrev pub measurementOf : Lists → List ℕ → Measurement
 measurementOf l offsets = foundOr (measureChecks l offsets) (measuredOf (timed l) offsets)
 
 -- an answer in numbers: the code and place of a refusal, and each band's width and start (01, 'Measuring' and 'Codes, in order of checking')
-pub record Numbers : Type 0 where
+pub record BandNumbers : Type 0 where
   pub code : ℕ
   pub place : ℕ
   pub outbound : Band
@@ -68,16 +68,17 @@ pub record Numbers : Type 0 where
 abbrev pub noBand : Band
 noBand = record { width = 0; start = 0 }
 
--- what the checks of an answered call came to, and the bands, if there are any (01, 'Codes, in order of checking')
-abbrev pub verdictOf : Measurement → Verdict
-verdictOf (measurement.Found m) = verdict.Passed
-verdictOf (measurement.Refused f) = verdict.Refused f
+-- what the checks of an answered call came to (01, 'Codes, in order of checking')
+abbrev pub bandVerdict : Measurement → Verdict
+bandVerdict (measurement.Found measured) = verdict.Passed
+bandVerdict (measurement.Refused f) = verdict.Refused f
 
+-- and the bands, if there are any
 abbrev pub bandsOf : Measurement → Measured
-bandsOf (measurement.Found m) = m
+bandsOf (measurement.Found measured) = measured
 bandsOf (measurement.Refused f) = record { outbound = noBand; inbound = noBand }
 
 -- a measure has code and place 0, a refusal has no width and no start (01, 'Codes, in order of checking')
-abbrev pub numbersOf : Measurement → Numbers
-numbersOf a =
-    record { code = codeOf (verdictOf a); place = placeOf (verdictOf a); outbound = bandsOf a .outbound; inbound = bandsOf a .inbound }
+abbrev pub bandNumbers : Measurement → BandNumbers
+bandNumbers a =
+    record { code = codeOf (bandVerdict a); place = placeOf (bandVerdict a); outbound = bandsOf a .outbound; inbound = bandsOf a .inbound }

@@ -14,7 +14,7 @@ use Rattle.exports.specs.declared.CorbatanSheet.{CorbatanSheet}
 use Rattle.exports.specs.declared.CorbatanText.{CorbatanText}
 
 -- a plan's numbers, or a refusal's
-abbrev pub planFields : plans.Numbers → CorbatanPlan
+abbrev pub planFields : plans.PlanNumbers → CorbatanPlan
 planFields n =
     record {
       code = n .code;
@@ -29,10 +29,10 @@ planFields n =
     }
 
 abbrev pub flatPlan : Answer → CorbatanPlan
-flatPlan a = planFields (plans.numbersOf a)
+flatPlan a = planFields (plans.planNumbers a)
 
 -- a measure's numbers, or a refusal's
-abbrev pub measureFields : bands.Numbers → CorbatanMeasure
+abbrev pub measureFields : bands.BandNumbers → CorbatanMeasure
 measureFields n =
     record {
       code = n .code;
@@ -44,7 +44,7 @@ measureFields n =
     }
 
 abbrev pub flatMeasure : Measurement → CorbatanMeasure
-flatMeasure m = measureFields (bands.numbersOf m)
+flatMeasure a = measureFields (bands.bandNumbers a)
 
 -- a sheet's numbers beside a code and a place
 abbrev pub flatSheet : ℕ → ℕ → Sheet → CorbatanSheet

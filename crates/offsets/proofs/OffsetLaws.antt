@@ -129,7 +129,7 @@ offset-at-is s x c raised j r shift ok l e =
     let lc = ready-lt s x c raised ok in
     let w = pairOf (s .cycle) (getD x c 0) (getD x j 0) (s .red j) in
     let better = betterOf (s .cycle) (s .red j) w in
-    let pair = pair-widths s c j (getD x c 0) (getD x j 0) w (fit .turns) (fit .goes j l) (ok .places .each c lc) (ok .places .each j l) refl in
+    let pair = pair-widths s c j (getD x c 0) (getD x j 0) w (fit .turns) (fit .goes j l) (ok .anchors .each c lc) (ok .anchors .each j l) refl in
     let own : better .u ≡ chosen s j = better-u s fit c j l w pair ∙ ap (λ (k : ℕ). u s k j (phase s k j)) (ok .found) in
     e
     ∙ moved-man s c j (better .phase) (loweringOf shift raised (s .red j) (better .u)) shift (omega (arith, fit .turns)) (ok .found)

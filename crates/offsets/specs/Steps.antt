@@ -14,10 +14,10 @@ use Rattle.widths.specs.declared.Shift.the-variants.{Unmoved, Outbound, Inbound
 use Rattle.widths.specs.Steps.{Raised}
 use Rattle.offsets.specs.declared.Choice.{Choice}
 
--- what a plan is made from: a sound street, its signals' places on the cycle, its reference and its B
+-- what a plan is made from: a sound street, its signals' anchors, its reference and its B
 pub record Ready (s : Timed) (x : List ℕ) (c raised : ℕ) : Type 0 where
   pub base : Raised s raised
-  pub places : Reduced s x
+  pub anchors : Reduced s x
   pub found : c ≡ reference s
 
 -- phase 0 or the cycle, by a test, and the u of that phase out of a pair's two raised widths: a raised width is u + H - 2r
@@ -28,7 +28,7 @@ choiceBy cycle red w first = record { phase = cond first 0 cycle; u = cond first
 abbrev pub betterOf : ℕ → ℕ → List ℕ → Choice
 betterOf cycle red w = choiceBy cycle red w (leb (getD w 1 0) (getD w 0 0))
 
--- the same from the two places on the cycle and the signal's red
+-- the same from the reference's and the signal's anchor and the signal's red
 abbrev pub choiceOf : ℕ → ℕ → ℕ → ℕ → Choice
 choiceOf cycle from to red = betterOf cycle red (pairOf cycle from to red)
 

@@ -20,8 +20,8 @@ pub struct Choice {
     pub u: u32,
 }
 
-// The better phase of a signal against the reference, 0 on a tie, from the two places on the cycle and the signal's red. A raised width
-// is u + H - 2r.
+// The better phase of a signal against the reference, 0 on a tie, from the two anchors and the signal's red. A raised width is
+// u + H - 2r.
 fn better_phase(cycle: u32, from: u32, to: u32, red: u32) -> Choice
     requires { ⌜ (1 ≤ cycle) × (cycle ≤ maxCycle) × (from < 2 * cycle) × (to < 2 * cycle) × (red < cycle) ⌝ }
     ensures { λ r. ⌜ r ≡ choiceOf cycle from to red ⌝ }
@@ -51,7 +51,7 @@ fn lowered_by(raised: u32, shift: Shift, red: u32, u: u32) -> u32
     }
 }
 
-// An offset from the places of the reference and the signal, the signal's red and the offset's two sides. The lowering joins the side
+// An offset from the anchors of the reference and the signal, the signal's red and the offset's two sides. The lowering joins the side
 // that is taken away, so that one remainder goes round the cycle.
 fn offset_at(
     cycle: u32,

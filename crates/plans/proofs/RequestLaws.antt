@@ -17,7 +17,7 @@ use Rattle.street.specs.declared.Street.{Street}
 use Rattle.street.specs.declared.Verdict.{Verdict}
 use Rattle.street.specs.declared.Verdict.the-variants as verdict
 use Rattle.street.specs.declared.Refusal.{Refusal}
-use Rattle.street.proofs.Passed.{clear}
+use Rattle.street.proofs.Passed.{in-limits}
 use Rattle.street.proofs.Sound.{sound, street-agrees}
 use Rattle.widths.specs.Moved.{shiftOf}
 use Rattle.widths.specs.Checks.{requestCheck}
@@ -56,7 +56,7 @@ module _ (s z : Timed) (agree : Agree s z) (some : 0 < s .signals) where
 
 -- the lent list has room for what is written
 pub passed-room : (l : Lists) (room : ℕ) (s : Street) → s ≡ streetOf l → planChecks l room ≡ verdict.Passed → s .road .signals ≤ room
-passed-room l room s e p = omega (arith, clear l room p .roomy, ap (λ x. x .road .signals) e)
+passed-room l room s e p = omega (arith, in-limits l room p .roomy, ap (λ x. x .road .signals) e)
 
 -- a refusal, by the checks of all plans or by the request's
 refusal : (asked : Request) (l : Lists) (before : List ℕ) (f : Refusal) → requestChecks asked l (length before) ≡ verdict.Refused f → Requested asked l before before (answer.Refused f)

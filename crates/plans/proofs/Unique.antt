@@ -11,7 +11,7 @@ use Rattle.circle.proofs.Numbers.{man-lt}
 use Rattle.street.specs.Checks.{planChecks}
 use Rattle.street.specs.Streets.{timed}
 use Rattle.street.specs.declared.Verdict.the-variants.{Passed}
-use Rattle.street.proofs.Passed.{clear}
+use Rattle.street.proofs.Passed.{in-limits}
 use Rattle.street.specs.Lists.{Lists}
 use Rattle.widths.specs.declared.Shift.{Shift}
 use Rattle.widths.specs.declared.Request.{Request}
@@ -33,4 +33,4 @@ pub offsets-below : (l : Lists) (room : ℕ) → planChecks l room ≡ Passed �
 unfolding lowered
 offsets-below l room passed shift j =
     man-lt (halves (timed l)) (pos (offset (timed l) (reference (timed l)) j) -ℤ pos (lowering shift (timed l) j))
-    (omega (arith, clear l room passed .cycle .low))
+    (omega (arith, in-limits l room passed .cycle .low))

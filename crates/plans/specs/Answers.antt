@@ -9,7 +9,7 @@ use Rattle.plans.specs.declared.Answer.{Answer}
 use Rattle.plans.specs.declared.Answer.the-variants as answer
 
 -- the code and place of a refusal, 0 and 0 for a plan, and a plan's numbers
-pub record Numbers : Type 0 where
+pub record PlanNumbers : Type 0 where
   pub code : ℕ
   pub place : ℕ
   pub plan : Plan
@@ -19,17 +19,18 @@ abbrev pub noPlan : Plan
 noPlan = record { reference = 0; b = pos 0; outbound = 0; inbound = 0; rounded = 0; starts = 0; ends = 0 }
 
 -- what the checks of an answered call came to
-abbrev pub verdictOf : Answer → Verdict
-verdictOf (answer.Planned p) = verdict.Passed
-verdictOf (answer.Refused f) = verdict.Refused f
+abbrev pub planVerdict : Answer → Verdict
+planVerdict (answer.Planned p) = verdict.Passed
+planVerdict (answer.Refused f) = verdict.Refused f
 
 -- and the plan, if there is one
 abbrev pub planOf : Answer → Plan
 planOf (answer.Planned p) = p
 planOf (answer.Refused f) = noPlan
 
-abbrev pub numbersOf : Answer → Numbers
-numbersOf a = record { code = codeOf (verdictOf a); place = placeOf (verdictOf a); plan = planOf a }
+-- all numbers of an answer
+abbrev pub planNumbers : Answer → PlanNumbers
+planNumbers a = record { code = codeOf (planVerdict a); place = placeOf (planVerdict a); plan = planOf a }
 
 -- the answer to a call: its refusal, or where every check passed the plan
 abbrev pub answered : Verdict → Plan → Answer

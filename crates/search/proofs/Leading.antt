@@ -14,8 +14,8 @@ use Rattle.circle.proofs.Numbers.Over.{maxBelow}
 use Rattle.circle.proofs.Formulas.{Fit, larger-raised, b⁺-le, top, B-raised, reference-is}
 use Rattle.circle.proofs.Formulas.Raised.{b⁺}
 use Rattle.street.specs.Steps.{timedWith, Sound}
-use Rattle.search.specs.Steps.{signedOf, Row, wider, Reduced, Turning, Searched}
-use Rattle.search.proofs.Pairs.{Pair, pair-widths, place-lt}
+use Rattle.search.specs.Steps.{signedOf, PairRow, wider, Reduced, Turning, Searched}
+use Rattle.search.proofs.Pairs.{Pair, pair-widths, anchor-lt}
 
 module _ (s : Timed) (fit : Fit s) where
   -- the least of a row of pairs is its candidate's b(i)
@@ -77,21 +77,21 @@ row-set P widths i row q l here other = go (ℕ-discrete q i)
 pub fit-sound : (s : Timed) → Sound s → Fit s
 fit-sound s ok = record { some = ok .some; turns = omega (arith, ok .shortest); goes = ok .goes }
 
--- a sound street's places lie on the cycle
+-- a sound street's anchors lie on the cycle
 pub turning : (cycle n : ℕ) (reds x : List ℕ) (out back : ℕ → ℕ) → Sound (timedWith cycle n reds out back) → Reduced (timedWith cycle n reds out back) x → Turning cycle n reds x
-turning cycle n reds x out back ok places =
-    record { goes = ok .goes; on = λ k l. place-lt (timedWith cycle n reds out back) x k places l (omega (arith, ok .shortest)) }
+turning cycle n reds x out back ok anchors =
+    record { goes = ok .goes; on = λ k l. anchor-lt (timedWith cycle n reds out back) x k anchors l (omega (arith, ok .shortest)) }
 
 -- and the least of its row is a candidate's b(i)
 pub candidate-is : (cycle n : ℕ) (reds x : List ℕ) (out back : ℕ → ℕ) (i : ℕ) (row : List (List ℕ)) (r : ℕ) →
     Sound (timedWith cycle n reds out back) → Reduced (timedWith cycle n reds out back) x → i < n →
-    Row cycle n reds x i row → pos r ≡ leastBelow n (λ j. pos (wider row j)) → r ≡ b⁺ (timedWith cycle n reds out back) i
-candidate-is cycle n reds x out back i row r ok places l filled e =
+    PairRow cycle n reds x i row → pos r ≡ leastBelow n (λ j. pos (wider row j)) → r ≡ b⁺ (timedWith cycle n reds out back) i
+candidate-is cycle n reds x out back i row r ok anchors l filled e =
     let s = timedWith cycle n reds out back in
     let turns : 0 < cycle = omega (arith, ok .shortest) in
     least-is s (fit-sound s ok) i row r
     (λ j h.
-    pair-widths s i j (getD x i 0) (getD x j 0) (getD row j []) turns (ok .goes j h) (places .each i l) (places .each j h) (filled .each j h))
+    pair-widths s i j (getD x i 0) (getD x j 0) (getD row j []) turns (ok .goes j h) (anchors .each i l) (anchors .each j h) (filled .each j h))
     e
 
 -- who leads after all candidates is the reference, with B

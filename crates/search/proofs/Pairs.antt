@@ -1,4 +1,4 @@
--- Laws of a pair of widths: its two numbers go on from one remainder to the next, and from places on the cycle they are the pair's widths, raised by it. Assumes nothing.
+-- Laws of a pair of widths: its two numbers go on from one remainder to the next, and from anchors they are the pair's widths, raised by it. Assumes nothing.
 use Prim.Native.Nat.{ℕ, _+_, _-_, _*_, _≤_, _<_}
 use mathlib.Core.Path.{_≡_, sym, ap, ap₂, _∙_}
 use mathlib.Core.List.{List, [], _∷_}
@@ -10,7 +10,7 @@ use Rattle.circle.specs.Man.{man}
 use Rattle.circle.specs.Method.{Timed, halves}
 use Rattle.circle.proofs.Numbers.{man-lt, man-step, minus-minus}
 use Rattle.circle.proofs.Formulas.{u-reduced, raised}
-use Rattle.search.specs.Steps.{place, pairOf, Reduced}
+use Rattle.search.specs.Steps.{anchor, pairOf, Reduced}
 
 -- a pair's two numbers, from the two remainders that the code takes one after the other
 pub pair-is : (cycle from to red even odd : ℕ) → 1 ≤ cycle → even ≡ man (2 * cycle) (pos from -ℤ pos to) → odd ≡ man (2 * cycle) (pos even -ℤ pos cycle) →
@@ -29,15 +29,15 @@ pub record Pair (s : Timed) (i j : ℕ) (w : List ℕ) : Type 0 where
   pub even : getD w 0 0 ≡ raised s i j 0
   pub odd : getD w 1 0 ≡ raised s i j (s .cycle)
 
--- one of them from places on the cycle
-raised-pair : (s : Timed) (i j e x y : ℕ) → 0 < s .cycle → s .red j < s .cycle → x ≡ place s i → y ≡ place s j →
+-- one of them from two anchors
+raised-pair : (s : Timed) (i j e x y : ℕ) → 0 < s .cycle → s .red j < s .cycle → x ≡ anchor s i → y ≡ anchor s j →
     4 * s .cycle - man (halves s) (pos x -ℤ pos y -ℤ pos e) - 2 * s .red j ≡ raised s i j e
 raised-pair s i j e x y h red ex ey =
     let some : 0 < 2 * s .cycle = omega arith in
     omega (arith, man-lt (halves s) (pos x -ℤ pos y -ℤ pos e) some, u-reduced s i j e x y h ex ey)
 
 -- and both
-pub pair-widths : (s : Timed) (i j x y : ℕ) (w : List ℕ) → 0 < s .cycle → s .red j < s .cycle → x ≡ place s i → y ≡ place s j → w ≡ pairOf (s .cycle) x y (s .red j) → Pair s i j w
+pub pair-widths : (s : Timed) (i j x y : ℕ) (w : List ℕ) → 0 < s .cycle → s .red j < s .cycle → x ≡ anchor s i → y ≡ anchor s j → w ≡ pairOf (s .cycle) x y (s .red j) → Pair s i j w
 pair-widths s i j x y w h red ex ey e =
     let same : pos x -ℤ pos y -ℤ pos 0 ≡ pos x -ℤ pos y = minus-minus x y 0 ∙ ap (λ (k : ℕ). pos x -ℤ pos k) (add-zero y) in
     record {
@@ -48,8 +48,8 @@ pair-widths s i j x y w h red ex ey e =
       odd = ap (λ z. getD z 1 0) e ∙ raised-pair s i j (s .cycle) x y h red ex ey;
     }
 
--- places lie on the cycle
-pub place-lt : (s : Timed) (x : List ℕ) (k : ℕ) → Reduced s x → k < s .signals → 0 < s .cycle → getD x k 0 < halves s
-place-lt s x k ok l some =
+-- anchors lie on the cycle
+pub anchor-lt : (s : Timed) (x : List ℕ) (k : ℕ) → Reduced s x → k < s .signals → 0 < s .cycle → getD x k 0 < halves s
+anchor-lt s x k ok l some =
     let h : 0 < 2 * s .cycle = omega arith in
     omega (arith, ok .each k l, man-lt (halves s) (pos (s .red k) -ℤ pos (s .outbound k + s .inbound k)) h)

@@ -14,28 +14,28 @@ use Rattle.search.specs.declared.Candidate.{Candidate}
 abbrev pub signedOf : Timed → ℕ → ℤ
 signedOf s x = pos x -ℤ pos (halves s)
 
--- a signal's place on the cycle: its red less its two sums, reduced once
-abbrev pub place : Timed → ℕ → ℕ
-place s k = man (halves s) (pos (s .red k) -ℤ pos (s .outbound k + s .inbound k))
+-- a signal's anchor: its red less its two sums, reduced to the cycle once
+abbrev pub anchor : Timed → ℕ → ℕ
+anchor s k = man (halves s) (pos (s .red k) -ℤ pos (s .outbound k + s .inbound k))
 
--- every signal's place
+-- every signal's anchor
 pub record Reduced (s : Timed) (x : List ℕ) : Type 0 where
-  pub each : (k : ℕ) → k < s .signals → getD x k 0 ≡ place s k
+  pub each : (k : ℕ) → k < s .signals → getD x k 0 ≡ anchor s k
 
--- a pair's two raised widths from two places on the cycle and the limit's red
+-- a pair's two raised widths from two anchors and the limit's red
 abbrev pub pairOf : ℕ → ℕ → ℕ → ℕ → List ℕ
 pairOf cycle from to red =
     (4 * cycle - man (2 * cycle) (pos from -ℤ pos to) - 2 * red)
     ∷ (4 * cycle - man (2 * cycle) (pos from -ℤ pos to -ℤ pos cycle) - 2 * red)
     ∷ []
 
--- reds shorter than the cycle, and places on it
+-- reds shorter than the cycle, and anchors on it
 pub record Turning (cycle n : ℕ) (reds x : List ℕ) : Type 0 where
   pub goes : (k : ℕ) → k < n → getD reds k 0 < cycle
   pub on : (k : ℕ) → k < n → getD x k 0 < 2 * cycle
 
--- the row of the candidate i, from the reds and the places: a pair for each limit
-pub record Row (cycle n : ℕ) (reds x : List ℕ) (i : ℕ) (row : List (List ℕ)) : Type 0 where
+-- the row of the candidate i, from the reds and the anchors: a pair for each limit
+pub record PairRow (cycle n : ℕ) (reds x : List ℕ) (i : ℕ) (row : List (List ℕ)) : Type 0 where
   pub each : (j : ℕ) → j < n → getD row j [] ≡ pairOf cycle (getD x i 0) (getD x j 0) (getD reds j 0)
 
 -- the larger of a row's pair at a limit
@@ -48,6 +48,6 @@ pub record Searched (s : Timed) (r : Candidate) : Type 0 where
   pub width : signedOf s (r .raised) ≡ B s
   pub small : r .raised ≤ 4 * s .cycle
 
--- the same of every sound street with this cycle, these reds and these places: the search sees no more of a street
+-- the same of every sound street with this cycle, these reds and these anchors: the search sees no more of a street
 pub record Finds (cycle n : ℕ) (reds x : List ℕ) (r : Candidate) : Type 0 where
   pub each : (outbound inbound : ℕ → ℕ) → Sound (timedWith cycle n reds outbound inbound) → Reduced (timedWith cycle n reds outbound inbound) x → Searched (timedWith cycle n reds outbound inbound) r

@@ -9,7 +9,7 @@ ghost use Rattle.circle.specs.Over.{leastBelow};
 ghost use Rattle.road.specs.Limits.{maxSignals};
 ghost use Rattle.street.specs.Limits.{maxCycle};
 ghost use Rattle.street.specs.Steps.{timedBy, Sound};
-ghost use Rattle.search.specs.Steps.{pairOf, Reduced, Turning, Row, wider, Finds};
+ghost use Rattle.search.specs.Steps.{pairOf, Reduced, Turning, PairRow, wider, Finds};
 
 // What the search settles on: the reference's index, counted from 0, and B raised by H.
 pub struct Candidate {
@@ -17,7 +17,7 @@ pub struct Candidate {
     pub raised: u32,
 }
 
-// Writes each signal's place on the cycle: its red less its two sums.
+// Writes each signal's anchor: its red less its two sums, reduced to the cycle.
 pub fn reduce(
     cycle: u32,
     n: usize,
@@ -38,7 +38,7 @@ pub fn reduce(
     }
 }
 
-// A pair's two raised widths, from the two signals' places on the cycle and the limit's red.
+// A pair's two raised widths, from the two signals' anchors and the limit's red.
 pub fn pair(cycle: u32, from: u32, to: u32, red: u32) -> [u32; 2]
     requires { ⌜ (1 ≤ cycle) × (cycle ≤ maxCycle) × (from < 2 * cycle) × (to < 2 * cycle) × (red < cycle) ⌝ }
     ensures { λ r. ⌜ r ≡ pairOf cycle from to red ⌝ }
@@ -59,7 +59,7 @@ fn fill(
     pairs: &mut [[u32; 2]; Street::MAX_SIGNALS],
 )
     requires { ⌜ (1 ≤ cycle) × (cycle ≤ maxCycle) × (n ≤ maxSignals) × (i < n) × Turning cycle n (now reds) (now x) × (n ≤ length (now pairs)) ⌝ }
-    ensures { λ _. ⌜ Row cycle n (now (reds .entry)) (now (x .entry)) i (now (pairs .exit)) × (length (now (pairs .exit)) ≡ length (now (pairs .entry))) ⌝ }
+    ensures { λ _. ⌜ PairRow cycle n (now (reds .entry)) (now (x .entry)) i (now (pairs .exit)) × (length (now (pairs .exit)) ≡ length (now (pairs .entry))) ⌝ }
 {
     let from = x[i];
     let mut j: usize = 0;

@@ -108,8 +108,8 @@ reds-within cycle reds e k l =
     let none = first-none (length reds) (badRed cycle reds) (no-fault Red (firstBelow (length reds) (badRed cycle reds)) e) k l in
     within-range minRed (cycle - 1) (getD reds k 0) (not-false _ none)
 
--- all of it
-pub record Clear (l : Lists) (room : ℕ) : Type 0 where
+-- all of it: the lists' lengths, the room and every number are within their limits
+pub record InLimits (l : Lists) (room : ℕ) : Type 0 where
   pub counts : Counted (signals l) (length (l .distances)) (length (l .outbound)) (length (l .inbound))
   pub roomy : signals l ≤ room
   pub cycle : Within minCycle maxCycle (l .cycle)
@@ -155,9 +155,9 @@ driveable ds vs ends few placed speeds =
       fast = λ k h. speeds k h .high;
     }
 
-pub clear : (l : Lists) (room : ℕ) → planChecks l room ≡ Passed → Clear l room
+pub in-limits : (l : Lists) (room : ℕ) → planChecks l room ≡ Passed → InLimits l room
 unfolding roomCheck
-clear l room e =
+in-limits l room e =
     let passed = all-passed l room e in
     let counts = counted (signals l) (length (l .distances)) (length (l .outbound)) (length (l .inbound)) (passed .counts) in
     let speeds = speeds-within (l .outbound) (l .inbound) (passed .speeds) in

@@ -12,12 +12,12 @@ use Rattle.street.specs.declared.Street.{Street}
 use Rattle.street.specs.declared.Surveyed.{Surveyed}
 use Rattle.street.specs.declared.Verdict.{Verdict}
 use Rattle.street.specs.declared.Verdict.the-variants.{Passed, Refused}
-use Rattle.street.proofs.Passed.{clear}
+use Rattle.street.proofs.Passed.{in-limits}
 
 module _ (l : Lists) (room : ℕ) (passed : planChecks l room ≡ Passed) where
   pub sound : Sound (timedStreet (streetOf l))
   sound =
-      let ok = clear l room passed in
+      let ok = in-limits l room passed in
       let road = paved (signals l) (l .distances) (l .outbound) (l .inbound) (omega arith) (ok .outbound) (ok .inbound) in
       record {
         some = road .some;

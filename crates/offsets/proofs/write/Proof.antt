@@ -10,7 +10,7 @@ use Rattle.circle.specs.Over.{listBelow}
 use Rattle.circle.proofs.Numbers.{fill-store}
 use Rattle.road.specs.Limits.{maxSignals}
 use Rattle.street.specs.Steps.{timedBy}
-use Rattle.search.proofs.Pairs.{place-lt}
+use Rattle.search.proofs.Pairs.{anchor-lt}
 use Rattle.offsets.specs.Moved.{movedOffset}
 use Rattle.offsets.proofs.OffsetLaws.{ready-lt, side-small, offset-at-is}
 use Rattle.offsets.proofs.write.Statement.{statement}
@@ -95,9 +95,9 @@ offset-at-requires c κs =
     let j = c .before .before .before .before .before .loop .j in
     let lj : j < s .signals = omega arith in
     let turns : 0 < s .cycle = omega (arith, ok .shortest) in
-    let on-cycle = place-lt s (c0 .args .x .now) in
-    let places = c0 .pre .0 .places in
-    (turns, ok .longest, on-cycle i places li turns, on-cycle j places lj turns, ok .goes j lj, c0 .pre .1, side-small s j i ok lj li, side-small s i j ok li lj)
+    let on-cycle = anchor-lt s (c0 .args .x .now) in
+    let anchors = c0 .pre .0 .anchors in
+    (turns, ok .longest, on-cycle i anchors li turns, on-cycle j anchors lj turns, ok .goes j lj, c0 .pre .1, side-small s j i ok lj li, side-small s i j ok li lj)
 
 mul-offsets : tie.Need-mul-offsets Inv-loop μ-loop
 mul-offsets c = search needs

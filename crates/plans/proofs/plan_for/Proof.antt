@@ -50,26 +50,26 @@ street-sound c = passed-sound (lists (entry c)) (length (lent (entry c))) (surve
 room : (c : tie.After-s) → survey c .street .road .signals ≤ length (lent (entry c))
 room c = passed-room (lists (entry c)) (length (lent (entry c))) (survey c .street) (street-is c) (passed c)
 
--- after the search: the street that it was made on, each signal's place on the cycle, and all that a plan is made from
+-- after the search: the street that it was made on, each signal's anchor, and all that a plan is made from
 abbrev on : tie.After-reference → tie.After-s
 on c = c .before .before .before .before .before .before .before .before .before .before .before .before
 
-abbrev places : tie.After-reference → List ℕ
-places c = c .before .before .before .reduce .last .1 .1 .1 .1 .1 .0
+abbrev anchors : tie.After-reference → List ℕ
+anchors c = c .before .before .before .reduce .last .1 .1 .1 .1 .1 .0
 
-ready : (c : tie.After-reference) → Ready (timedStreet (survey (on c) .street)) (places c) (c .reference .result .signal) (c .reference .result .raised)
+ready : (c : tie.After-reference) → Ready (timedStreet (survey (on c) .street)) (anchors c) (c .reference .result .signal) (c .reference .result .raised)
 ready c =
     let s = survey (on c) .street in
     let r = c .reference .ensures .each (timedStreet s .outbound) (timedStreet s .inbound) (street-sound (on c)) (c .before .before .before .reduce .ensures) in
     record {
       base = record { sound = street-sound (on c); width = r .width; small = r .small };
-      places = c .before .before .before .reduce .ensures;
+      anchors = c .before .before .before .reduce .ensures;
       found = r .found;
     }
 
 reference-in : (c : tie.After-reference) → (c .reference .result .signal < survey (on c) .street .road .signals) × (survey (on c) .street .road .signals ≤ maxSignals)
 reference-in c =
-    (ready-lt (timedStreet (survey (on c) .street)) (places c) (c .reference .result .signal) (c .reference .result .raised) (ready c), street-sound (on c) .few)
+    (ready-lt (timedStreet (survey (on c) .street)) (anchors c) (c .reference .result .signal) (c .reference .result .raised) (ready c), street-sound (on c) .few)
 
 -- a request that passed its check, and the width of its shift
 abbrev found : tie.After-enum-told2 → tie.After-reference
@@ -142,7 +142,7 @@ numbers-requires c κs =
     let r = found (settled .before) in
     let at = r .reference .result in
     let s = on r in
-    (ready r .base, ready r .found, narrow settled, own-written (timedStreet (survey s .street)) (places r) (at .signal) (at .raised) (settled .settle .result) (lent (entry s)) _ (ready r) (c .before .before .before .write .ensures))
+    (ready r .base, ready r .found, narrow settled, own-written (timedStreet (survey s .street)) (anchors r) (at .signal) (at .raised) (settled .settle .result) (lent (entry s)) _ (ready r) (c .before .before .before .write .ensures))
 
 returns-2 : tie.Need-returns-2
 returns-2 c =

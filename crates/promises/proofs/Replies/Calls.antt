@@ -26,7 +26,7 @@ use Rattle.widths.specs.declared.Shift.{Shift}
 use Rattle.widths.specs.declared.Shift.the-variants.{Unmoved}
 use Rattle.offsets.specs.Moved.{movedOffset}
 use Rattle.offsets.proofs.MovedLaws.{unmoved-offset}
-use Rattle.plans.specs.Answers.{verdictOf, numbersOf, answered}
+use Rattle.plans.specs.Answers.{planVerdict, planNumbers, answered}
 use Rattle.plans.specs.Requests.{movedPlan, requestChecks, written, Requested}
 use Rattle.plans.specs.declared.Plan.{Plan}
 use Rattle.plans.specs.declared.Answer.{Answer}
@@ -37,7 +37,7 @@ use Rattle.promises.proofs.Streets.Directions.{near-rounded, near-exact
 use Rattle.promises.proofs.Kept.{InRange, Follows, plan-keeps, platoons-in-range}
 
 -- an answer with code 0 passed the checks
-planned : (v : Verdict) (p : Plan) → numbersOf (answered v p) .code ≡ 0 → v ≡ Passed
+planned : (v : Verdict) (p : Plan) → planNumbers (answered v p) .code ≡ 0 → v ≡ Passed
 planned Passed p e = refl
 planned (Refused f) p e = absurd (omega (arith, code-some (f .code)))
 
@@ -54,7 +54,7 @@ as-long Passed n f before e =
 as-long (Refused r) n f before e = let z : _≡_ {A = ℕ} 0 1 = cc in absurd (omega arith)
 
 -- and the numbers that it replies are the plan's
-replied : (v : Verdict) (p : Plan) → v ≡ Passed → numbersOf (answered v p) .plan ≡ p
+replied : (v : Verdict) (p : Plan) → v ≡ Passed → planNumbers (answered v p) .plan ≡ p
 replied Passed p e = refl
 replied (Refused f) p e = let z : _≡_ {A = ℕ} 0 1 = cc in absurd (omega arith)
 
@@ -73,12 +73,12 @@ in-range (request.Platoons P Q) l room passed e = platoons-in-range (timed l) (f
 pub record Told (l : Lists) (room : ℕ) (shift : Shift) (exit : List ℕ) (r : Answer) : Type 0 where
   pub passed : planChecks l room ≡ Passed
   pub range : InRange (timed l) shift
-  pub numbers : movedPlan shift (timed l) (m l) ≡ numbersOf r .plan
+  pub numbers : movedPlan shift (timed l) (m l) ≡ planNumbers r .plan
   pub same : Follows (timed l) shift (λ j. getD exit j 0)
   pub long : signals l ≤ length exit
 
 pub reply-told :
-    (asked : Request) (l : Lists) (entry exit : List ℕ) (r : Answer) → Requested asked l entry exit r → numbersOf r .code ≡ 0 →
+    (asked : Request) (l : Lists) (entry exit : List ℕ) (r : Answer) → Requested asked l entry exit r → planNumbers r .code ≡ 0 →
     Told l (length entry) (shiftOf asked (timed l)) exit r
 reply-told asked l entry exit r call code =
     let s = timed l in
@@ -86,19 +86,19 @@ reply-told asked l entry exit r call code =
     let shift = shiftOf asked s in
     let plan = movedPlan shift s (m l) in
     let v = requestChecks asked l room in
-    let all : v ≡ Passed = planned v plan (ap (λ a. numbersOf a .code) (sym (call .reply)) ∙ code) in
+    let all : v ≡ Passed = planned v plan (ap (λ a. planNumbers a .code) (sym (call .reply)) ∙ code) in
     let passed = first-passed (planChecks l room) (orNext (requestCheck asked s) Passed) all in
     let asks = rest-passed (planChecks l room) (orNext (requestCheck asked s) Passed) all in
     record {
       passed = passed;
       range = in-range asked l room passed (first-passed (requestCheck asked s) Passed asks);
-      numbers = sym (ap (λ a. numbersOf a .plan) (call .reply) ∙ replied v plan all);
+      numbers = sym (ap (λ a. planNumbers a .plan) (call .reply) ∙ replied v plan all);
       same = λ j h. ap (λ (x : List ℕ). getD x j 0) (call .after) ∙ left v (signals l) (movedOffset shift s) entry all j h;
       long = omega (arith, ap (λ (x : List ℕ). length x) (call .after), as-long v (signals l) (movedOffset shift s) entry all);
     }
 
 -- no check is the equal plan's own
-judged : (v : Verdict) (p : Plan) → verdictOf (answered (orNext v Passed) p) ≡ v
+judged : (v : Verdict) (p : Plan) → planVerdict (answered (orNext v Passed) p) ≡ v
 judged Passed p = refl
 judged (Refused f) p = refl
 
@@ -106,7 +106,7 @@ pub equal-is-method : EqualIsMethod
 equal-is-method l entry exit r call =
     let s = timed l in
     let c = reference s in (
-      ap verdictOf (call .reply) ∙ judged (planChecks l (length entry)) (movedPlan Unmoved s (m l)),
+      ap planVerdict (call .reply) ∙ judged (planChecks l (length entry)) (movedPlan Unmoved s (m l)),
       λ code.
           let told = reply-told request.Equal l entry exit r call code in
           let ok = fit l (length entry) (told .passed) in

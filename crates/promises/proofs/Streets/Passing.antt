@@ -12,12 +12,12 @@ use Rattle.street.specs.Lists.{Lists, signals}
 use Rattle.street.specs.Checks.{planChecks}
 use Rattle.street.specs.Streets.{timed}
 use Rattle.street.specs.declared.Verdict.the-variants.{Passed}
-use Rattle.street.proofs.Passed.{clear}
+use Rattle.street.proofs.Passed.{in-limits}
 
 module _ (l : Lists) (room : ℕ) (passed : planChecks l room ≡ Passed) where
   pub fit : Fit (timed l)
   fit =
-      let ok = clear l room passed in
+      let ok = in-limits l room passed in
       record {
         some = ok .counts .least;
         turns = omega (arith, ok .cycle .low);
@@ -25,7 +25,7 @@ module _ (l : Lists) (room : ℕ) (passed : planChecks l room ≡ Passed) where
       }
 
   stops : Stops (timed l)
-  stops = λ k h. clear l room passed .reds k h .low
+  stops = λ k h. in-limits l room passed .reds k h .low
 
   pub rising : Rising (timed l)
   rising j h = sum-rises (linkTicks (l .distances) (l .inbound)) (signals l - 1) j (omega arith)

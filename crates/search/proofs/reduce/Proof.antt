@@ -1,4 +1,4 @@
--- `search::reduce` meets its contract. The loop's invariant: the array holds the places of the signals before `k`, and what it held from there on. Assumes nothing.
+-- `search::reduce` meets its contract. The loop's invariant: the array holds the anchors of the signals before `k`, and what it held from there on. Assumes nothing.
 use Prim.Native.Nat.{_-_, _≤_}
 use mathlib.Core.Path.{_≡_, refl, ap, _∙_}
 use mathlib.Core.List.{_++_}
@@ -9,13 +9,13 @@ use Rattle.circle.specs.Method.{Timed}
 use Rattle.circle.specs.Over.{listBelow}
 use Rattle.circle.proofs.Numbers.{fill-store, getD-listBelow}
 use Rattle.street.specs.Steps.{timedBy}
-use Rattle.search.specs.Steps.{place}
+use Rattle.search.specs.Steps.{anchor}
 use Rattle.search.proofs.reduce.Statement.{statement}
 use Rattle.search.proofs.reduce.Tie as tie
 
 abbrev Inv-loop : tie.InvT-loop
 Inv-loop cycle n reds outbound inbound x₀ count h k₀ x k =
-    (k ≤ n) × (length x ≡ length x₀) × (x ≡ listBelow k (place (timedBy cycle n reds outbound inbound)) ++ drop k x₀)
+    (k ≤ n) × (length x ≡ length x₀) × (x ≡ listBelow k (anchor (timedBy cycle n reds outbound inbound)) ++ drop k x₀)
 
 abbrev μ-loop : tie.MeasureT-loop
 μ-loop cycle n reds outbound inbound x₀ count h k₀ x k = n - k
@@ -78,13 +78,13 @@ loop-again : tie.Need-loop-again Inv-loop μ-loop
 loop-again c =
     let c0 = c .before .before .before .before .before .before .before in
     let loop = c .before .before .before .before .before .loop in
-    (omega arith, simp length-set (loop .inv .1), fill-store (c0 .args .x .now) (loop .x) (place (street-of c0)) (loop .k) (c .remainder .result) 0 (omega (arith, c0 .pre .1)) (loop .inv .2) (c .remainder .ensures))
+    (omega arith, simp length-set (loop .inv .1), fill-store (c0 .args .x .now) (loop .x) (anchor (street-of c0)) (loop .k) (c .remainder .result) 0 (omega (arith, c0 .pre .1)) (loop .inv .2) (c .remainder .ensures))
 
 returns : tie.Need-returns Inv-loop μ-loop
 returns c =
     let c0 = c .before .before .before in
     let loop = c .before .loop in
-    record { each = λ k l. ap (λ x. getD x k 0) (loop .inv .2) ∙ getD-listBelow (loop .k) (place (street-of c0)) _ k 0 (omega arith) }
+    record { each = λ k l. ap (λ x. getD x k 0) (loop .inv .2) ∙ getD-listBelow (loop .k) (anchor (street-of c0)) _ k 0 (omega arith) }
 
 pub reduce-spec : {M : Type 1} → statement M
 reduce-spec =

@@ -12,7 +12,7 @@ use Rattle.circle.proofs.Formulas.{b⁺}
 use Rattle.road.specs.Limits.{maxSignals}
 use Rattle.street.specs.Steps.{timedWith, Sound}
 use Rattle.search.proofs.Leading.{settled, Leading, leads-first, leads-new, leads-still, row-set, fit-sound, candidate-is}
-use Rattle.search.specs.Steps.{Row, Reduced, Turning, Finds}
+use Rattle.search.specs.Steps.{PairRow, Reduced, Turning, Finds}
 use Rattle.search.proofs.reference.Statement.{statement}
 use Rattle.search.proofs.reference.Tie as tie
 
@@ -25,7 +25,7 @@ Leads cycle n reds x k signal raised =
 abbrev Inv-loop : tie.InvT-loop
 Inv-loop cycle n reds x count widths₀ i₀ widths i =
     (i ≤ count) × (length widths ≡ maxSignals) × ((q : ℕ) → q < maxSignals → length (getD widths q []) ≡ maxSignals)
-    × ((q : ℕ) → q < i → Row cycle count reds x q (getD widths q []))
+    × ((q : ℕ) → q < i → PairRow cycle count reds x q (getD widths q []))
 
 abbrev μ-loop : tie.MeasureT-loop
 μ-loop cycle n reds x count widths₀ i₀ widths i = count - i
@@ -75,7 +75,7 @@ loop-again c =
       λ q l.
           row-set (λ k row. length row ≡ maxSignals) (loop .widths) i _ q in-table (c .fill .ensures .1 ∙ loop .inv .2 i in-row) (λ n. loop .inv .2 q l),
       λ q l.
-          row-set (Row (a .cycle) count (a .reds .now) (a .x .now)) (loop .widths) i _ q in-table (c .fill .ensures .0) (λ n. loop .inv .3 q (omega (arith, n))),
+          row-set (PairRow (a .cycle) count (a .reds .now) (a .x .now)) (loop .widths) i _ q in-table (c .fill .ensures .0) (λ n. loop .inv .3 q (omega (arith, n))),
     )
 
 index-1-least : tie.Need-index-1-least Inv-loop μ-loop Inv-loop2 μ-loop2
@@ -89,7 +89,7 @@ loop2-holds c =
     let c0 = c .before .before .before .before .before in
     let a = c0 .args in
     let rows = c .before .before .before .loop in
-    (search needs, search needs, λ out back ok places. leads-first _ _ (candidate-is (a .cycle) _ (a .reds .now) (a .x .now) out back 0 (getD (rows .widths) 0 []) (c .least .result) ok places (omega arith) (rows .inv .3 0 (omega arith)) (c .least .ensures)))
+    (search needs, search needs, λ out back ok anchors. leads-first _ _ (candidate-is (a .cycle) _ (a .reds .now) (a .x .now) out back 0 (getD (rows .widths) 0 []) (c .least .result) ok anchors (omega arith) (rows .inv .3 0 (omega arith)) (c .least .ensures)))
 
 mul-least : tie.Need-mul-least Inv-loop μ-loop Inv-loop2 μ-loop2
 mul-least c = search needs
@@ -117,11 +117,11 @@ loop2-again c =
     let least = c .before .least2 in (
       omega arith,
       omega arith,
-      λ out back ok places. (
+      λ out back ok anchors. (
           let g = b⁺ (timedWith (a .cycle) count (a .reds .now) out back) in
-          let lead = loop .inv .2 out back ok places in
+          let lead = loop .inv .2 out back ok anchors in
           let here =
-          candidate-is (a .cycle) count (a .reds .now) (a .x .now) out back k (getD (rows .widths) k []) (least .result) ok places (omega arith) (rows .inv .3 k (omega arith)) (least .ensures) in
+          candidate-is (a .cycle) count (a .reds .now) (a .x .now) out back k (getD (rows .widths) k []) (least .result) ok anchors (omega arith) (rows .inv .3 k (omega arith)) (least .ensures) in
           ⊎-elim
           (λ w. subst₂ (Leading g (k + 1)) (sym (w .1)) (sym (w .2)) (leads-new g k (loop .signal) (loop .raised) (least .result) lead (w .0 .taken) here))
           (λ w. subst₂ (Leading g (k + 1)) (sym (w .1)) (sym (w .2)) (leads-still g k (loop .signal) (loop .raised) (least .result) lead (w .0 .left) here))
@@ -139,9 +139,9 @@ returns c =
     subst (λ (k : ℕ). Finds (a .cycle) k (a .reds .now) (a .x .now) (record { signal = loop .signal; raised = loop .raised })) (bounded .ensures)
     (record {
       each =
-          λ out back ok places.
+          λ out back ok anchors.
           let s = timedWith (a .cycle) (bounded .result) (a .reds .now) out back in
-          settled s (fit-sound s ok) (loop .k) (loop .signal) (loop .raised) all (loop .inv .2 out back ok places);
+          settled s (fit-sound s ok) (loop .k) (loop .signal) (loop .raised) all (loop .inv .2 out back ok anchors);
     })
 
 pub reference-spec : {M : Type 1} → statement M

@@ -14,7 +14,7 @@ use Rattle.street.specs.declared.Street.{Street}
 use Rattle.street.specs.declared.Surveyed.{Surveyed}
 use Rattle.street.specs.declared.Verdict.{Verdict}
 use Rattle.street.specs.declared.Verdict.the-variants.{Passed, Refused}
-use Rattle.street.proofs.Passed.{Clear, clear}
+use Rattle.street.proofs.Passed.{InLimits, in-limits}
 use Rattle.street.proofs.Street.new.Statement.{statement}
 use Rattle.street.proofs.Street.new.Tie as tie
 
@@ -23,8 +23,8 @@ answer v s = record { verdict = v; street = s }
 
 -- what the verdict on lists comes to
 module _ (l : Lists) (room : ℕ) (v : Verdict) (is : v ≡ planChecks l room) where
-  passed : v ≡ Passed → Clear l room
-  passed told = clear l room (sym is ∙ told)
+  passed : v ≡ Passed → InLimits l room
+  passed told = in-limits l room (sym is ∙ told)
 
   filled : v ≡ Passed → (out back reds : List ℕ) (m : ℕ) → laid (length (l .distances)) out back m ≡ roadOf (length (l .distances)) (l .distances) (l .outbound) (l .inbound) → reds ≡ streetOf l .reds → answer v (record { road = laid (length (l .distances)) out back m; cycle = l .cycle; reds = reds }) ≡ surveyed l room
   filled told out back reds m road copied =
@@ -42,7 +42,7 @@ abbrev lists : tie.After-judged → Lists
 lists c =
     typed (entry c .args .cycle) (entry c .args .reds .now) (entry c .args .distances .now) (entry c .args .outbound .now) (entry c .args .inbound .now)
 
-ready : (c : tie.After-enum-told) → Clear (lists (c .before .before)) (entry (c .before .before) .args .lent)
+ready : (c : tie.After-enum-told) → InLimits (lists (c .before .before)) (entry (c .before .before) .args .lent)
 ready c =
     let at = c .before .before in passed (lists at) (entry at .args .lent) _ (at .judged .ensures) (c .enum-told .given .1)
 
