@@ -1,4 +1,4 @@
--- `search::fill` meets its contract. The loop's invariant: the row holds the pairs of the limits before `j`, and zeros from there on. Assumes nothing.
+-- `search::fill` meets its contract. The loop's invariant: the row holds the pairs of the limits before `j`, and what it held from there on. Assumes nothing.
 use Prim.Native.Nat.{ℕ, _-_, _≤_}
 use mathlib.Core.Path.{_≡_, refl, ap, _∙_}
 use mathlib.Core.List.{List, [], _++_}
@@ -16,6 +16,10 @@ Inv-loop cycle reds x n i pairs₀ from j₀ pairs j = (j ≤ n) × (length pair
 
 abbrev μ-loop : tie.MeasureT-loop
 μ-loop cycle reds x n i pairs₀ from j₀ pairs j = n - j
+
+-- the pair of the limit at an index
+abbrev pair-at : tie.Start Inv-loop μ-loop → ℕ → List ℕ
+pair-at c q = pairOf (c .args .cycle) (getD (c .args .x .now) (c .args .i) 0) (getD (c .args .x .now) q 0) (getD (c .args .reds .now) q 0)
 
 mul-from : tie.Need-mul-from Inv-loop μ-loop
 mul-from c = search needs
@@ -62,15 +66,13 @@ loop-again : tie.Need-loop-again Inv-loop μ-loop
 loop-again c =
     let c0 = c .before .before .before .before .before .before in
     let loop = c .before .before .before .before .loop in
-    let all : ℕ → List ℕ = λ q. pairOf (c0 .args .cycle) (getD (c0 .args .x .now) (c0 .args .i) 0) (getD (c0 .args .x .now) q 0) (getD (c0 .args .reds .now) q 0) in
-    (omega arith, simp length-set (loop .inv .1), fill-store (c0 .args .pairs .now) (loop .pairs) all (loop .j) (c .pair .result) [] (omega (arith, c0 .pre .5)) (loop .inv .2) (c .pair .ensures))
+    (omega arith, simp length-set (loop .inv .1), fill-store (c0 .args .pairs .now) (loop .pairs) (pair-at c0) (loop .j) (c .pair .result) [] (omega (arith, c0 .pre .5)) (loop .inv .2) (c .pair .ensures))
 
 returns : tie.Need-returns Inv-loop μ-loop
 returns c =
     let c0 = c .before .before .before in
     let loop = c .before .loop in
-    let all : ℕ → List ℕ = λ q. pairOf (c0 .args .cycle) (getD (c0 .args .x .now) (c0 .args .i) 0) (getD (c0 .args .x .now) q 0) (getD (c0 .args .reds .now) q 0) in
-    (record { each = λ j l. ap (λ z. getD z j []) (loop .inv .2) ∙ getD-listBelow (loop .j) all _ j [] (omega arith) }, loop .inv .1)
+    (record { each = λ j l. ap (λ z. getD z j []) (loop .inv .2) ∙ getD-listBelow (loop .j) (pair-at c0) _ j [] (omega arith) }, loop .inv .1)
 
 pub fill-spec : {M : Type 1} → statement M
 fill-spec =
