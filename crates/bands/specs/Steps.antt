@@ -34,6 +34,6 @@ pub record Placed (s : Timed) (offsets : List ℕ) : Type 0 where
 pub record Ended (direction : Direction) (s : Timed) (offsets ends : List ℕ) : Type 0 where
   pub each : (j : ℕ) → j < s .signals → getD ends j 0 ≡ endOf direction s offsets j
 
--- the same for a street (01, 'Red, departure, band')
+-- a street's way, seen from where a direction departs, by its red ends (01, 'Red, departure, band')
 abbrev pub seen : Timed → List ℕ → Way
 seen s ends = seenBy (halves s) (s .signals) (s .red) ends

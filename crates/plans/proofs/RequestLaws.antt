@@ -59,8 +59,8 @@ pub passed-room : (l : Lists) (room : ℕ) (s : Street) → s ≡ streetOf l →
 passed-room l room s e p = omega (arith, in-limits l room p .roomy, ap (λ x. x .road .signals) e)
 
 -- a refusal, by the checks of all plans or by the request's
-refusal : (asked : Request) (l : Lists) (before : List ℕ) (f : Refusal) → requestChecks asked l (length before) ≡ verdict.Refused f → Requested asked l before before (answer.Refused f)
-refusal asked l before f e =
+refused-reply : (asked : Request) (l : Lists) (before : List ℕ) (f : Refusal) → requestChecks asked l (length before) ≡ verdict.Refused f → Requested asked l before before (answer.Refused f)
+refused-reply asked l before f e =
     record {
       reply = sym (ap (λ v. answered v (movedPlan (shiftOf asked (timed l)) (timed l) (m l))) e);
       after = sym (ap (λ v. written v (listBelow (signals l) (movedOffset (shiftOf asked (timed l)) (timed l))) before) e);
@@ -68,7 +68,7 @@ refusal asked l before f e =
 
 pub requested-refused : (asked : Request) (l : Lists) (before : List ℕ) (f : Refusal) → planChecks l (length before) ≡ verdict.Refused f → Requested asked l before before (answer.Refused f)
 requested-refused asked l before f e =
-    refusal asked l before f (ap (λ v. firstFault (v ∷ requestCheck asked (timed l) ∷ [])) e)
+    refused-reply asked l before f (ap (λ v. firstFault (v ∷ requestCheck asked (timed l) ∷ [])) e)
 
 -- the request's check over the typed lists
 check-lists :
@@ -82,7 +82,7 @@ pub asked-refused :
     (asked : Request) (l : Lists) (before : List ℕ) (s : Street) (f : Refusal) → planChecks l (length before) ≡ verdict.Passed → s ≡ streetOf l →
     requestCheck asked (timedStreet s) ≡ verdict.Refused f → Requested asked l before before (answer.Refused f)
 asked-refused asked l before s f passed is e =
-    refusal asked l before f (check-lists asked l (length before) s (verdict.Refused f) passed is e)
+    refused-reply asked l before f (check-lists asked l (length before) s (verdict.Refused f) passed is e)
 
 -- a plan
 pub requested-planned :

@@ -50,11 +50,11 @@ module _ (l : Lists) (room : ℕ) (first : Verdict) (is : first ≡ firstFault (
   pub plan-numbers : first ≡ Passed → (v : Verdict) → v ≡ firstFault (numberChecks l) → v ≡ planChecks l room
   plan-numbers e v same = same ∙ then Passed e
 
-  pub opened : first ≡ Passed → (1 ≤ l .cycle) × (counts l ≡ Passed)
-  opened e =
+  pub opening-tells : first ≡ Passed → (1 ≤ l .cycle) × (counts l ≡ Passed)
+  opening-tells e =
       let all = sym is ∙ e in
-      let timed = rest-passed (roomCheck (signals l) room) _ (rest-passed (counts l) _ all) in
-      (omega (arith, cycle-range (l .cycle) (first-passed (cycleCheck (l .cycle)) Passed timed) .low), first-passed (counts l) _ all)
+      let on = rest-passed (roomCheck (signals l) room) _ (rest-passed (counts l) _ all) in
+      (omega (arith, cycle-range (l .cycle) (first-passed (cycleCheck (l .cycle)) Passed on) .low), first-passed (counts l) _ all)
 
 -- a search that found no fault
 pub no-fault : (code : Code) (f : Found) → faultAt code f ≡ Passed → f ≡ nowhere

@@ -72,17 +72,17 @@ reference-in c =
     (ready-lt (timedStreet (survey (on c) .street)) (anchors c) (c .reference .result .signal) (c .reference .result .raised) (ready c), street-sound (on c) .few)
 
 -- a request that passed its check, and the width of its shift
-abbrev found : tie.After-enum-told2 → tie.After-reference
-found c = c .before .before .before
+abbrev searched : tie.After-enum-told2 → tie.After-reference
+searched c = c .before .before .before
 
 abbrev out : tie.After-enum-told2 → tie.After-s
-out c = on (found c)
+out c = on (searched c)
 
 asked-passed : (c : tie.After-enum-told2) → requestCheck (entry (out c) .args .request) (timedStreet (survey (out c) .street)) ≡ Passed
 asked-passed c = sym (c .before .before .check .ensures) ∙ c .enum-told2 .given .1
 
-narrow : (c : tie.After-settle) → shiftWidth (c .settle .result) ≤ maxHalves
-narrow c =
+narrow-shift : (c : tie.After-settle) → shiftWidth (c .settle .result) ≤ maxHalves
+narrow-shift c =
     let s = out (c .before) in
     subst (λ x. shiftWidth x ≤ maxHalves) (sym (c .settle .ensures))
     (shift-small (timedStreet (survey s .street)) (entry s .args .request) (street-sound s) (asked-passed (c .before)))
@@ -123,26 +123,26 @@ enum-told-2 : tie.Need-enum-told-2
 enum-told-2 c = search needs
 
 settle-requires : tie.Need-settle-requires
-settle-requires c κs = (ready (found c) .base, asked-passed c)
+settle-requires c κs = (ready (searched c) .base, asked-passed c)
 
 write-requires : tie.Need-write-requires
 write-requires c κs =
-    let settled = c .before .before .before .before .before in (ready (found (settled .before)), narrow settled, room (out (settled .before)))
+    let settled = c .before .before .before .before .before in (ready (searched (settled .before)), narrow-shift settled, room (out (settled .before)))
 
 mul-f : tie.Need-mul-f
 mul-f c = omega (arith, reference-in (c .before .before .before .before .before .before .before .before .before .before .before .before))
 
 slice-read-f : tie.Need-slice-read-f
 slice-read-f c =
-    let told = c .before .before .before .before .before .before .before .before .before .before in omega (arith, reference-in (found told), room (out told))
+    let told = c .before .before .before .before .before .before .before .before .before .before in omega (arith, reference-in (searched told), room (out told))
 
 numbers-requires : tie.Need-numbers-requires
 numbers-requires c κs =
     let settled = c .before .before .before .before .before .before .before .before .before in
-    let r = found (settled .before) in
+    let r = searched (settled .before) in
     let at = r .reference .result in
     let s = on r in
-    (ready r .base, ready r .found, narrow settled, own-written (timedStreet (survey s .street)) (anchors r) (at .signal) (at .raised) (settled .settle .result) (lent (entry s)) _ (ready r) (c .before .before .before .write .ensures))
+    (ready r .base, ready r .found, narrow-shift settled, own-written (timedStreet (survey s .street)) (anchors r) (at .signal) (at .raised) (settled .settle .result) (lent (entry s)) _ (ready r) (c .before .before .before .write .ensures))
 
 returns-2 : tie.Need-returns-2
 returns-2 c =

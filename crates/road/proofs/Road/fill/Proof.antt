@@ -17,8 +17,8 @@ use Rattle.road.proofs.Road.fill.Statement.{statement}
 use Rattle.road.proofs.Road.fill.Tie as tie
 
 -- an array that holds the times to the signals up to one
-abbrev Holds : List ℕ → List ℕ → ℕ → List ℕ → Type 0
-Holds distances speeds k all = all ≡ listBelow (k + 1) (timeTo distances speeds) ++ drop (k + 1) (replicate maxSignals 0)
+abbrev HoldsTimes : List ℕ → List ℕ → ℕ → List ℕ → Type 0
+HoldsTimes distances speeds k all = all ≡ listBelow (k + 1) (timeTo distances speeds) ++ drop (k + 1) (replicate maxSignals 0)
 
 -- a sum and a link's part of it are small
 fits : (ds vs : List ℕ) → Driveable ds vs → (k sum part : ℕ) → k < length vs → sum ≡ timeTo ds vs k → part ≡ linkTicks ds vs k → sum + part ≤ maxTime
@@ -31,8 +31,8 @@ Inv-loop distances outbound inbound out₀ back₀ there₀ home₀ rounded₀ k
     × (there ≡ timeTo distances outbound k)
     × (home ≡ timeTo distances inbound k)
     × (rounded ≡ countBelow k (roundedLink distances outbound inbound))
-    × Holds distances outbound k out
-    × Holds distances inbound k back
+    × HoldsTimes distances outbound k out
+    × HoldsTimes distances inbound k back
 
 abbrev μ-loop : tie.MeasureT-loop
 μ-loop distances outbound inbound out₀ back₀ there₀ home₀ rounded₀ k₀ out back there home rounded k =

@@ -2,7 +2,7 @@
 -- Assumes nothing.
 use borrow.Author.Needs.{needs}
 use Rattle.street.specs.Lists.{Lists, typed}
-use Rattle.street.proofs.Passed.{plan-refused, plan-numbers, opened}
+use Rattle.street.proofs.Passed.{plan-refused, plan-numbers, opening-tells}
 use Rattle.street.proofs.checks.judged.Statement.{statement}
 use Rattle.street.proofs.checks.judged.Tie as tie
 
@@ -28,7 +28,7 @@ numbers-requires : tie.Need-numbers-requires
 numbers-requires c κs =
     let c0 = c .before .before .before .before .before .before .before in
     let first = c .before .before .opening in
-    opened (lists c0) (c0 .args .lent) (first .result) (first .ensures) (c .enum-told .given .1)
+    opening-tells (lists c0) (c0 .args .lent) (first .result) (first .ensures) (c .enum-told .given .1)
 
 returns-2 : tie.Need-returns-2
 returns-2 c =
