@@ -20,7 +20,7 @@ use Rattle.widths.specs.declared.Request.{Request}
 use Rattle.widths.specs.declared.Request.the-variants.{Equal}
 use Rattle.widths.specs.declared.Shift.{Shift}
 use Rattle.widths.specs.declared.Shift.the-variants.{Unmoved, Outbound, Inbound}
-use Rattle.plans.specs.Answers.{verdictOf, numbersOf}
+use Rattle.plans.specs.Answers.{planVerdict, planNumbers}
 use Rattle.plans.specs.Requests.{Requested}
 use Rattle.plans.specs.declared.Answer.{Answer}
 use Rattle.plans.specs.declared.Plan.{Plan}
@@ -60,7 +60,7 @@ pub record Kept (shift : Shift) (w : Ways) (f : ℕ → ℕ) (p : Plan) (r : ℕ
 -- a claim about the plan and the lent list of every reply with code 0, whatever was asked for
 abbrev pub OfReplies : (Request → Lists → List ℕ → Plan → Type 0) → Type 0
 OfReplies claim =
-    (request : Request) (l : Lists) (entry exit : List ℕ) (r : Answer) → Requested request l entry exit r → numbersOf r .code ≡ 0 → claim request l exit (numbersOf r .plan)
+    (request : Request) (l : Lists) (entry exit : List ℕ) (r : Answer) → Requested request l entry exit r → planNumbers r .code ≡ 0 → claim request l exit (planNumbers r .plan)
 
 -- 1. At rounded times nothing is lost (01, 'The equal plan' and 'Moving width')
 abbrev pub KeptRounded : Type 0
@@ -87,7 +87,7 @@ NothingLost =
 abbrev pub MeasureAgrees : Type 0
 MeasureAgrees =
     OfReplies λ request l exit p.
-    let found = bands.numbersOf (bands.measurementOf l (take (signals l) exit)) in
+    let found = bands.bandNumbers (bands.measurementOf l (take (signals l) exit)) in
     (found .code ≡ 0) × (found .outbound .width ≡ p .outbound) × (found .inbound .width ≡ p .inbound)
 
 -- 4. The equal plan is the published method's own (01, 'The equal plan'): the checks of every plan alone judge a call for it, and with code 0 the reply's numbers and the offset of each signal are
@@ -97,9 +97,9 @@ EqualIsMethod =
     (l : Lists) (entry exit : List ℕ) (r : Answer) → Requested Equal l entry exit r →
     let s = timed l in
     let c = reference s in
-    let p = numbersOf r .plan in
-    (verdictOf r ≡ planChecks l (length entry))
-    × (numbersOf r .code ≡ 0 →
+    let p = planNumbers r .plan in
+    (planVerdict r ≡ planChecks l (length entry))
+    × (planNumbers r .code ≡ 0 →
     (p .reference ≡ c + 1)
     × (p .b ≡ B s)
     × (p .outbound ≡ equalWidth s)

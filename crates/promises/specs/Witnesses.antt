@@ -87,5 +87,5 @@ MeasuredElsewhere =
     let f : List ℕ = 15 ∷ 15 ∷ [] in
     (requestAnswer (Outbound 16) elsewhere 2 ≡ plan 1 (pos 11) 16 6 0 17 13)
     × (requestAfter (Outbound 16) elsewhere (7 ∷ 7 ∷ []) ≡ f)
-    × (bands.numbersOf (bands.measurementOf elsewhere f) ≡ record { code = 0; place = 0; outbound = record { width = 16; start = 17 }; inbound = record { width = 6; start = 7 } })
+    × (bands.bandNumbers (bands.measurementOf elsewhere f) ≡ record { code = 0; place = 0; outbound = record { width = 16; start = 17 }; inbound = record { width = 6; start = 7 } })
     × (intoBand 1 (inboundWay (timed elsewhere) (λ j. getD f j 0)) 0 13 6 7 ≡ 10)

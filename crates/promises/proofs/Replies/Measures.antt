@@ -20,7 +20,7 @@ use Rattle.widths.specs.Moved.{shiftOf, outboundWidth, inboundWidth}
 use Rattle.widths.specs.declared.Shift.{Shift}
 use Rattle.offsets.specs.Moved.{movedOffset}
 use Rattle.plans.proofs.Unique.{offsets-below}
-use Rattle.bands.specs.Measure.{badOffset, offsetCheck, measureChecks, measuredOf, foundOr, measurementOf, numbersOf}
+use Rattle.bands.specs.Measure.{badOffset, offsetCheck, measureChecks, measuredOf, foundOr, measurementOf, bandNumbers}
 use Rattle.bands.proofs.CheckLaws.{checks-full}
 use Rattle.promises.specs.Replies.{MeasureAgrees}
 use Rattle.promises.proofs.Streets.Passing.{fit, bounded, rising}
@@ -57,7 +57,7 @@ measure-agrees asked l entry exit r call code =
     let same : Follows s shift f = λ j h. getD-take n exit j 0 h ∙ told .same j h in
     let named = plan-bands s ok rise f shift same (told .range) in
     let all = accepted l room passed shift offsets (length-take-le n exit (told .long)) same in
-    let found : numbersOf (foundOr Passed (measuredOf s offsets)) ≡ numbersOf (measurementOf l offsets) = ap (λ c. numbersOf (foundOr c (measuredOf s offsets))) (sym all) in
+    let found : bandNumbers (foundOr Passed (measuredOf s offsets)) ≡ bandNumbers (measurementOf l offsets) = ap (λ c. bandNumbers (foundOr c (measuredOf s offsets))) (sym all) in
     let is = bands-measured s ok (bounded l room passed) f v v′ named in
-    subst (λ p. let n = numbersOf (measurementOf l offsets) in (n .code ≡ 0) × (n .outbound .width ≡ p .outbound) × (n .inbound .width ≡ p .inbound)) (told .numbers)
+    subst (λ p. let n = bandNumbers (measurementOf l offsets) in (n .code ≡ 0) × (n .outbound .width ≡ p .outbound) × (n .inbound .width ≡ p .inbound)) (told .numbers)
     (subst (λ n. (n .code ≡ 0) × (n .outbound .width ≡ v) × (n .inbound .width ≡ v′)) found (refl, is .0, is .1))

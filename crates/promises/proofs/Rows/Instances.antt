@@ -9,14 +9,14 @@ use Rattle.circle.specs.Moved.{lowered}
 use Rattle.street.specs.Lists.{Lists}
 use Rattle.street.specs.Checks.{countCheck, roomCheck, cycleCheck, redCheck, distanceCheck, speedCheck, planChecks}
 use Rattle.widths.specs.declared.Request.the-variants.{Equal}
-use Rattle.bands.specs.Measure.{numbersOf, measurementOf}
+use Rattle.bands.specs.Measure.{bandNumbers, measurementOf}
 use Rattle.promises.specs.Rows.{two, pair, streetA, lent}
 use Rattle.promises.proofs.Replies.Measures.{measure-agrees}
 
 -- both measured bands under some offsets have a width
 abbrev pub BothWide : Lists → List ℕ → ℕ → Type 0
 BothWide l offsets v =
-    let found = numbersOf (measurementOf l offsets) in
+    let found = bandNumbers (measurementOf l offsets) in
     (found .outbound .width ≡ v) × (found .inbound .width ≡ v)
 
 pub instances : BothWide (pair 600 300 30000) (0 ∷ 600 ∷ []) 600 × BothWide (pair 600 300 15000) (0 ∷ 0 ∷ []) 300 × BothWide streetA (0 ∷ 10 ∷ []) 60

@@ -13,7 +13,7 @@ use Rattle.street.specs.Lists.{Lists, signals}
 use Rattle.street.specs.Checks.{planChecks}
 use Rattle.street.specs.Streets.{m, timed}
 use Rattle.street.specs.declared.Verdict.the-variants.{Passed}
-use Rattle.street.proofs.Passed.{clear}
+use Rattle.street.proofs.Passed.{in-limits}
 use Rattle.promises.specs.Exact.{Fine, exactLink, Ways, roundedWays, exactWays}
 use Rattle.promises.proofs.Streets.Passing.{fit}
 use Rattle.promises.proofs.Streets.Windows.{Window, unmoved, from-first, to-last}
@@ -50,7 +50,7 @@ module _ (l : Lists) (room : ℕ) (passed : planChecks l room ≡ Passed) (N : �
   pub near-exact : Fine l N → Near l N (m l) (exactWays l N .outbound (λ j. 0) .lag) (exactWays l N .inbound (λ j. 0) .lag)
   near-exact fine =
       let turns = fit l room passed .turns in
-      let ok = clear l room passed in
+      let ok = in-limits l room passed in
       let marks = roundedLink (l .distances) (l .outbound) (l .inbound) in
       record {
         some = fine .some;

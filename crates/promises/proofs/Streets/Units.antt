@@ -8,7 +8,7 @@ use native.Mathlib.Nat.{mul-lt-mul-of-pos-left, mul-mod-left, mod-add-div', eq-o
 use lib.ListN.{getD}
 use Rattle.road.specs.Times.{linkLength}
 use Rattle.street.specs.Lists.{Lists, signals}
-use Rattle.street.proofs.Passed.{clear}
+use Rattle.street.proofs.Passed.{in-limits}
 use Rattle.promises.specs.Replies.{FineExists, NothingLost}
 
 -- the product of f over the indices below n
@@ -46,7 +46,7 @@ speeds l k = getD (l .outbound) k 0 * getD (l .inbound) k 0
 pub fine-exists : FineExists
 unfolding speeds
 fine-exists l room passed =
-    let ok = clear l room passed in (
+    let ok = in-limits l room passed in (
       product (signals l - 1) (speeds l),
       record {
         some =
