@@ -5,3 +5,4 @@ pub mod Replies
 pub mod Laws
 pub mod Rows
 pub mod Witnesses
+pub mod Examples
