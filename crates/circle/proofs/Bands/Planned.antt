@@ -1,6 +1,6 @@
 -- The named bands of each plan. The equal plan lowers nothing and leaves room for B, since no signal leaves less beside its red. The lowerings of a request leave room for the
 -- width that was asked and for what is left of 2B, or for a stretch of negative length where nothing is. Assumes nothing.
-use Prim.Native.Nat.{ℕ, _+_, _-_, _*_, _≤_, _<_}
+use Prim.Native.Nat.{ℕ, _+_, _-_, _*_, _<_}
 use mathlib.Core.Path.{_≡_}
 use mathlib.Core.Bool.{true}
 use native.Mathlib.Omega.{arith}

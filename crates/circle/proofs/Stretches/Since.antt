@@ -1,6 +1,6 @@
 -- How a stretch is settled at one signal. A number in range that differs by whole turns from the time past the red's end is the time since the red ended. So a proof that k
 -- departures pass names that time for each signal and adds it up. Assumes nothing.
-use Prim.Native.Nat.{ℕ, _+_, _-_, _*_, _/_, _%_, _≤_, _<_}
+use Prim.Native.Nat.{ℕ, _+_, _-_, _/_, _%_, _≤_, _<_}
 use mathlib.Core.Path.{_≡_, ap}
 use native.Mathlib.Omega.{arith}
 use native.Mathlib.Nat.{mod-lt, mod-add-div'}

@@ -6,11 +6,9 @@ use mathlib.Core.Path.{_≡_, sym, ap, subst, _∙_}
 use mathlib.Core.Bool.{true}
 use native.Mathlib.Omega.{arith}
 use native.Mathlib.Decide.{decLe}
-use native.Mathlib.Nat.{mul-lt-mul-of-pos-left}
 use Rattle.circle.specs.Method.{inUnits}
 use Rattle.circle.specs.Bands.{Way, clear, stretch, width, bandStart, wayThrough}
 use Rattle.circle.proofs.Numbers.{Turns, man-turns, all-each}
-use Rattle.circle.proofs.Formulas.{Fit}
 use Rattle.circle.proofs.Stretches.{Passes, Proper, passes-stretch, since-turns, width-ge, band-starts, lags-passes, lags-back, part}
 use Rattle.circle.proofs.Bands.{Named, meets, finer-passes, fit-scaled}
 use Rattle.street.specs.Lists.{Lists, signals}

@@ -1,14 +1,12 @@
 -- The measure of the offsets that a plan leaves: they are instants of the cycle, so that no check refuses them, and the widths found are those of the plan's named bands. The offsets enter
 -- through the lent list's first entries. Assumes nothing.
-use Prim.Native.Nat.{ℕ, _*_, _≤_, _<_}
+use Prim.Native.Nat.{ℕ, _*_}
 use mathlib.Core.Path.{_≡_, refl, sym, ap, ap₂, subst, _∙_}
 use mathlib.Core.List.{List}
 use native.Mathlib.Omega.{arith}
 use lib.ListN.{length, take, getD}
 use lib.Seq.{getD-take, length-take-le}
 use borrow.Author.Tests.{lt-leb}
-use Rattle.circle.specs.Method.{halves}
-use Rattle.circle.specs.Bands.{width, outboundWay, inboundWay}
 use Rattle.circle.proofs.Numbers.{first-nowhere}
 use Rattle.street.specs.Lists.{Lists, signals}
 use Rattle.street.specs.Checks.{planChecks, orNext, faultAt}
@@ -18,7 +16,6 @@ use Rattle.street.specs.declared.Verdict.the-variants.{Passed}
 use Rattle.street.proofs.Passed.{enough-room}
 use Rattle.widths.specs.Moved.{shiftOf, outboundWidth, inboundWidth}
 use Rattle.widths.specs.declared.Shift.{Shift}
-use Rattle.offsets.specs.Moved.{movedOffset}
 use Rattle.plans.proofs.Unique.{offsets-below}
 use Rattle.bands.specs.Measure.{badOffset, offsetCheck, measureChecks, measuredOf, foundOr, measurementOf, bandNumbers}
 use Rattle.bands.proofs.CheckLaws.{checks-full}

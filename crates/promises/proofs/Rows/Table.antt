@@ -9,7 +9,7 @@ use Rattle.circle.specs.Moved.{g, inRange, chosen, outboundLowering, inboundLow
 use Rattle.street.specs.Checks.{countCheck, roomCheck, cycleCheck, redCheck, distanceCheck, speedCheck, planChecks}
 use Rattle.widths.specs.Moved.{platoonShift}
 use Rattle.widths.specs.Checks.{platoonCheck, widthCheck}
-use Rattle.promises.specs.Rows.{Best, best-is, ExactBest, lent, Holds, All, two, pair, streetA, plan, row, best-row, refusal, equal-rows, rounding-rows, width-rows, platoon-rows, rows}
+use Rattle.promises.specs.Rows.{best-is, ExactBest, lent, Holds, All, two, pair, streetA, plan, row, best-row, refusal, equal-rows, rounding-rows, width-rows, platoon-rows, rows}
 use Rattle.promises.proofs.Streets.Directions.{near-exact}
 use Rattle.promises.proofs.Kept.Bounds.{none-wider}
 use Rattle.promises.proofs.Witnesses.{fine-two}
