@@ -1,7 +1,9 @@
 -- Sheets that the definitions are run on: the sheet of 01, and one for each way to break it. Every equation holds by computation. Assumes nothing.
 use Prim.Native.Nat.{ℕ}
-use mathlib.Core.Path.{_≡_, refl}
+use mathlib.Core.Logic.{inl, inr}
+use mathlib.Core.Path.{_≡_, refl, sym}
 use mathlib.Core.List.{List, [], _∷_, _++_}
+use native.Mathlib.Omega.{arith}
 use lib.ListN.{replicate}
 use lib.Dec.{lit<, lit≤}
 use Rattle.street.specs.Lists.{Lists}
@@ -13,7 +15,8 @@ use Rattle.sheet.specs.Bytes.{kindOf}
 use Rattle.sheet.specs.Numbers.{more, number}
 use Rattle.sheet.specs.Sections.{pairs, section, cycleSection}
 use Rattle.sheet.specs.Reading.{readingOf, refusing, parsed, afterCycle, afterSignals, sheetOf}
-use Rattle.sheet.specs.Form.{text, pairLines, Writable}
+use Rattle.sheet.specs.Form.{text, pairLines, Writable, SignalCount, LinkCount, CountFault}
+use Rattle.sheet.proofs.ByForm.{Written, Broken, refused-is-broken}
 
 -- street A of 01
 abbrev pub streetA : Lists
@@ -105,3 +108,50 @@ pub runs-hold : Hold runs
 unfolding parsed afterCycle afterSignals cycleSection section pairs number more kindOf
 runs-hold =
     (refl, (refl, (refl, (refl, (refl, (refl, (refl, (refl, (refl, (refl, (refl, (refl, (refl, (refl, (refl, (refl, tt))))))))))))))))
+
+-- ---- a sheet for each of the three cases of the form
+
+pub written-a : Written sheetA
+written-a = record { street = streetA; writable = writable-a; is-text = sym text-a }
+
+-- 33 signals, and then a carriage return, which is no part of any line
+pub signals-miscounted : CountFault (counted (51 ∷ 51 ∷ 10 ∷ 13 ∷ []))
+unfolding digitsUpTo
+signals-miscounted =
+    record {
+      fits = lit≤ tt;
+      miscount =
+          inl
+          record { cycle = 100; count = 33; rest = 13 ∷ []; short-cycle = lit< tt; short-count = lit< tt; wrong = inr (lit< tt); form = refl };
+    }
+
+-- 2 links between 2 signals
+pub links-miscounted : CountFault (head ++ signalLines ++ 50 ∷ 10 ∷ linkLine)
+unfolding pairLines digitsUpTo
+links-miscounted =
+    record {
+      fits = lit≤ tt;
+      miscount =
+          inr
+          record {
+            cycle = 100;
+            distances = 0 ∷ 30000 ∷ [];
+            reds = 40 ∷ 50 ∷ [];
+            count = 2;
+            rest = linkLine;
+            some = lit≤ tt;
+            few = lit≤ tt;
+            even = refl;
+            short-cycle = lit< tt;
+            short-distances = (lit< tt, (lit< tt, tt));
+            short-reds = (lit< tt, (lit< tt, tt));
+            short-count = lit< tt;
+            wrong = λ e. omega arith;
+            form = refl;
+          };
+    }
+
+-- a byte after the last line
+pub broken-a : Broken (sheetA ++ 10 ∷ [])
+unfolding parsed afterCycle afterSignals cycleSection section pairs number more kindOf
+broken-a = refused-is-broken (sheetA ++ 10 ∷ []) refl

@@ -59,7 +59,7 @@ text-is-accepted l w =
 pub text-tells : (l m : Lists) → Writable l → Writable m → text l ≡ text m → l ≡ m
 text-tells l m v w e = let q : accepted l ≡ accepted m = sym (text-is-accepted l v) ∙ ap parsed e ∙ text-is-accepted m w in cc
 
-not-accepted : (c : Code) (l : Lists) → refused c ≡ accepted l → ⊥
+pub not-accepted : (c : Code) (l : Lists) → refused c ≡ accepted l → ⊥
 not-accepted c l e = let z : _≡_ {A = ℕ} 0 1 = cc in omega arith
 
 past-lines : (next : List ℕ → List ℕ → List ℕ → Parsed) (l : Lists) (t : Lines) → thenLines t next ≡ accepted l →

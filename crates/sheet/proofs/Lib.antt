@@ -11,3 +11,5 @@ pub mod Decimals
 pub mod LineForms
 pub mod Form
 pub mod Codes
+pub mod Counts
+pub mod ByForm

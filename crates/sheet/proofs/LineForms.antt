@@ -48,7 +48,7 @@ cycle-read cycle rest s = rw (line-read 1 (decimal cycle ++ lineEnd ∷ rest) (l
 
 -- ---- what was read is what is written
 
-line-wrote : (bytes : List ℕ) (x : ℕ) (rest : List ℕ) → number bytes ≡ ended x rest → (bytes ≡ decimal x ++ lineEnd ∷ rest) × Short x
+pub line-wrote : (bytes : List ℕ) (x : ℕ) (rest : List ℕ) → number bytes ≡ ended x rest → (bytes ≡ decimal x ++ lineEnd ∷ rest) × Short x
 line-wrote bytes x rest e = subst (λ (t : Taken). Wrote t bytes) e (number-wrote bytes)
 
 space-wrote : (bytes : List ℕ) (x : ℕ) (rest : List ℕ) → number bytes ≡ spaced x rest → (bytes ≡ decimal x ++ space ∷ rest) × Short x

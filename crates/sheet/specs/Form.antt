@@ -1,10 +1,13 @@
--- The form of a sheet, stated apart from reading it (01, 'The street sheet'). proofs/Form.antt shows that the reader accepts exactly the texts of writable streets.
+-- The form of a sheet, stated apart from reading it (01, 'The street sheet'), and what bytes come to by it: a street, code 2 or code 1 (01, 'Codes, in order of checking').
 use Prim.Native.Nat.{ℕ, _-_, _≤_, _<_, _^_}
+use mathlib.Core.Logic.{_⊎_}
 use mathlib.Core.Path.{_≡_}
 use mathlib.Core.List.{List, [], _∷_, _++_}
 use lib.ListN.{length}
 use Rattle.road.specs.Limits.{minSignals, maxSignals}
 use Rattle.street.specs.Lists.{Lists, signals}
+use Rattle.street.specs.declared.Code.{Code}
+use Rattle.street.specs.declared.Code.the-variants.{Sheet, Count}
 use Rattle.decimal.specs.Decimal.{decimal}
 use Rattle.sheet.specs.Bytes.{maxBytes, space, lineEnd}
 
@@ -54,3 +57,41 @@ pub record Writable (l : Lists) : Type 0 where
   pub short-outbound : AllShort (l .outbound)
   pub short-inbound : AllShort (l .inbound)
   pub fits : length (text l) ≤ maxBytes
+
+-- a wrong number of signals: a first section of the form, and then a whole line with a number that is not 1 to 32, whatever follows
+pub record SignalCount (bytes : List ℕ) : Type 0 where
+  pub cycle : ℕ
+  pub count : ℕ
+  pub rest : List ℕ
+  pub short-cycle : Short cycle
+  pub short-count : Short count
+  pub wrong : (count < minSignals) ⊎ (maxSignals < count)
+  pub form : bytes ≡ line 1 ++ line cycle ++ line count ++ rest
+
+-- a wrong number of links: two sections of the form, and then a whole line with a number that is not one fewer than the signals, whatever follows
+pub record LinkCount (bytes : List ℕ) : Type 0 where
+  pub cycle : ℕ
+  pub distances : List ℕ
+  pub reds : List ℕ
+  pub count : ℕ
+  pub rest : List ℕ
+  pub some : minSignals ≤ length reds
+  pub few : length reds ≤ maxSignals
+  pub even : length distances ≡ length reds
+  pub short-cycle : Short cycle
+  pub short-distances : AllShort distances
+  pub short-reds : AllShort reds
+  pub short-count : Short count
+  pub wrong : count ≡ length reds - 1 → ⊥
+  pub form : bytes ≡ line 1 ++ line cycle ++ line (length reds) ++ pairLines distances reds ++ line count ++ rest
+
+-- the sheets that get code 2: not too long, and one of the two counts is wrong
+pub record CountFault (bytes : List ℕ) : Type 0 where
+  pub fits : length bytes ≤ maxBytes
+  pub miscount : SignalCount bytes ⊎ LinkCount bytes
+
+-- what bytes come to: the street whose text they are; code 2 where a count is wrong; and where neither is so, code 1
+pub record ByForm (bytes : List ℕ) (street : Lists → Type 0) (refusal : Code → Type 0) : Type 0 where
+  pub written : (l : Lists) → Writable l → bytes ≡ text l → street l
+  pub miscounted : CountFault bytes → refusal Count
+  pub broken : ((l : Lists) → Writable l → bytes ≡ text l → ⊥) → (CountFault bytes → ⊥) → refusal Sheet
