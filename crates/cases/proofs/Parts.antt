@@ -5,7 +5,7 @@ use native.Mathlib.Omega.{arith}
 use lib.ListN.{length, take}
 use lib.Seq.{length-take-le}
 use Rattle.sheet.specs.declared.Sheet.{Sheet}
-use Rattle.printed.specs.Way.{Held}
+use Rattle.printed.specs.Steps.{Held}
 
 module _ (s : Sheet) (held : Held s) where
   pub reds-part : s .signals ≡ length (take (s .signals) (s .reds))

@@ -7,7 +7,6 @@ use Rattle.street.specs.Codes.{codeNumber, codeOf, placeOf}
 use Rattle.street.specs.Lists.{Lists}
 use Rattle.street.specs.declared.Refusal.{Refusal}
 use Rattle.sheet.specs.declared.Head.{Head}
-use Rattle.sheet.specs.declared.Reading.{Reading}
 use Rattle.sheet.specs.Filled.{assembled}
 use Rattle.plans.specs.Answers.{noPlan}
 use Rattle.plans.specs.Requests as plans
@@ -19,7 +18,7 @@ use Rattle.bands.specs.Measure.{noBand}
 use Rattle.bands.specs.declared.Measurement.the-variants as measurement
 use Rattle.exports.specs.declared.CorbatanPlan.{CorbatanPlan}
 use Rattle.exports.specs.Flat.{planFields, flatPlan, measureFields, flatMeasure, flatSheet, flatReading}
-use Rattle.exports.specs.Calls.{Requested}
+use Rattle.exports.specs.Calls.{FlatRequested}
 
 -- a plan with another B
 abbrev withB : Plan → ℤ → Plan
@@ -50,13 +49,11 @@ pub measure-refused :
 measure-refused f code e = ap (λ k. measureFields (record { code = k; place = f .place; outbound = noBand; inbound = noBand })) e
 
 -- what `plans` ensures of an answer, of the struct that holds it
-pub requested-flat : (asked : Request) (l : Lists) (entry exit : List ℕ) (a : Answer) (r : CorbatanPlan) → plans.Requested asked l entry exit a → r ≡ flatPlan a → Requested asked l entry exit r
+pub requested-flat : (asked : Request) (l : Lists) (entry exit : List ℕ) (a : Answer) (r : CorbatanPlan) → plans.Requested asked l entry exit a → r ≡ flatPlan a → FlatRequested asked l entry exit r
 requested-flat asked l entry exit a r found e = record { reply = e ∙ ap flatPlan (found .reply); after = found .after }
 
 -- a reading by its head and its columns, with the head's verdict in numbers
 pub reading-flat :
-    (h : Head) (reds distances outbound inbound : List ℕ) (r : Reading) (code place : ℕ) →
-    assembled h reds distances outbound inbound ≡ r → code ≡ codeOf (h .verdict) → place ≡ placeOf (h .verdict) →
-    flatSheet code place (assembled h reds distances outbound inbound .sheet) ≡ flatReading r
-reading-flat h reds distances outbound inbound r code place same k q =
-    ap₂ (λ n p. flatSheet n p (assembled h reds distances outbound inbound .sheet)) k q ∙ ap flatReading same
+    (h : Head) (reds distances outbound inbound : List ℕ) (code place : ℕ) → code ≡ codeOf (h .verdict) → place ≡ placeOf (h .verdict) →
+    flatSheet code place (assembled h reds distances outbound inbound .sheet) ≡ flatReading (assembled h reds distances outbound inbound)
+reading-flat h reds distances outbound inbound code place k q = ap₂ (λ n p. flatSheet n p (assembled h reds distances outbound inbound .sheet)) k q

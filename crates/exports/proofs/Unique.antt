@@ -1,20 +1,19 @@
 -- Each contract settles the reply and, where a list is lent, its final content: two that a contract allows at the same entry are equal. Assumes nothing.
 use Prim.Native.Nat.{ℕ}
-use mathlib.Core.Path.{_≡_, sym, _∙_}
+use mathlib.Core.Path.{_≡_, sym, ap, _∙_}
 use mathlib.Core.List.{List}
 use Rattle.road.specs.Limits.{maxSignals}
 use Rattle.street.specs.Lists.{Lists}
-use Rattle.sheet.specs.Reading.{readingOf}
+use Rattle.sheet.proofs.Unique as sheet
 use Rattle.widths.specs.declared.Request.{Request}
 use Rattle.bands.specs.Measure.{measurementOf}
-use Rattle.printed.specs.Text.{printedOf}
-use Rattle.printed.specs.Way.{equalText}
+use Rattle.printed.proofs.Unique.{prints-answer-unique}
 use Rattle.exports.specs.declared.CorbatanPlan.{CorbatanPlan}
 use Rattle.exports.specs.declared.CorbatanMeasure.{CorbatanMeasure}
 use Rattle.exports.specs.declared.CorbatanSheet.{CorbatanSheet}
 use Rattle.exports.specs.declared.CorbatanText.{CorbatanText}
 use Rattle.exports.specs.Flat.{flatMeasure, flatReading, flatText}
-use Rattle.exports.specs.Calls.{Requested}
+use Rattle.exports.specs.Calls.{FlatRequested, FlatReads, FlatPrints}
 
 -- one reply, and one final list
 pub record Same (r r′ : CorbatanPlan) (exit exit′ : List ℕ) : Type 0 where
@@ -22,15 +21,17 @@ pub record Same (r r′ : CorbatanPlan) (exit exit′ : List ℕ) : Type 0 where
   pub after : exit ≡ exit′
 
 -- of any request, and so of each of the four calls
-pub requested-unique : (asked : Request) (l : Lists) (entry exit exit′ : List ℕ) (r r′ : CorbatanPlan) → Requested asked l entry exit r → Requested asked l entry exit′ r′ → Same r r′ exit exit′
+pub requested-unique : (asked : Request) (l : Lists) (entry exit exit′ : List ℕ) (r r′ : CorbatanPlan) → FlatRequested asked l entry exit r → FlatRequested asked l entry exit′ r′ → Same r r′ exit exit′
 requested-unique asked l entry exit exit′ r r′ one other =
     record { reply = one .reply ∙ sym (other .reply); after = one .after ∙ sym (other .after) }
 
 pub measure-unique : (l : Lists) (offsets : List ℕ) (r r′ : CorbatanMeasure) → r ≡ flatMeasure (measurementOf l offsets) → r′ ≡ flatMeasure (measurementOf l offsets) → r ≡ r′
 measure-unique l offsets r r′ one other = one ∙ sym other
 
-pub read-unique : (bytes : List ℕ) (r r′ : CorbatanSheet) → r ≡ flatReading (readingOf bytes) → r′ ≡ flatReading (readingOf bytes) → r ≡ r′
-read-unique bytes r r′ one other = one ∙ sym other
+pub read-unique : (bytes : List ℕ) (r r′ : CorbatanSheet) → FlatReads bytes r → FlatReads bytes r′ → r ≡ r′
+read-unique bytes r r′ one other =
+    one .reply ∙ ap flatReading (sheet.read-unique bytes (one .reading) (other .reading) (one .reads) (other .reads)) ∙ sym (other .reply)
 
-pub print-unique : (bytes : List ℕ) (r r′ : CorbatanText) → r ≡ flatText (printedOf (equalText bytes maxSignals)) → r′ ≡ flatText (printedOf (equalText bytes maxSignals)) → r ≡ r′
-print-unique bytes r r′ one other = one ∙ sym other
+pub print-unique : (bytes : List ℕ) (r r′ : CorbatanText) → FlatPrints bytes r → FlatPrints bytes r′ → r ≡ r′
+print-unique bytes r r′ one other =
+    one .reply ∙ ap flatText (prints-answer-unique bytes maxSignals (one .printed) (other .printed) (one .prints) (other .prints)) ∙ sym (other .reply)

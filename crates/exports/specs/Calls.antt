@@ -1,15 +1,34 @@
--- The contract of the four calls that lend a list, each by its request: the reply is the library's in C's struct, and the list is as the library leaves it.
+-- The contracts of the calls that lend a list or take a sheet: the reply is the library's in C's struct, and a list is as the library leaves it.
 use mathlib.Core.Path.{_≡_}
 use mathlib.Core.List.{List}
 use Prim.Native.Nat.{ℕ}
 use lib.ListN.{length}
+use Rattle.road.specs.Limits.{maxSignals}
 use Rattle.street.specs.Lists.{Lists}
+use Rattle.sheet.specs.declared.Reading.{Reading}
+use Rattle.sheet.specs.Reading.{Reads}
 use Rattle.plans.specs.Requests.{requestAnswer, requestAfter}
 use Rattle.widths.specs.declared.Request.{Request}
+use Rattle.printed.specs.declared.Printed.{Printed}
+use Rattle.printed.specs.Way.{PrintsAnswer}
 use Rattle.exports.specs.declared.CorbatanPlan.{CorbatanPlan}
-use Rattle.exports.specs.Flat.{flatPlan}
+use Rattle.exports.specs.declared.CorbatanSheet.{CorbatanSheet}
+use Rattle.exports.specs.declared.CorbatanText.{CorbatanText}
+use Rattle.exports.specs.Flat.{flatPlan, flatReading, flatText}
 
 -- `corbatan_equal`, `corbatan_outbound`, `corbatan_inbound` and `corbatan_platoons`
-pub record Requested (request : Request) (l : Lists) (entry exit : List ℕ) (r : CorbatanPlan) : Type 0 where
+pub record FlatRequested (request : Request) (l : Lists) (entry exit : List ℕ) (r : CorbatanPlan) : Type 0 where
   pub reply : r ≡ flatPlan (requestAnswer request l (length entry))
   pub after : exit ≡ requestAfter request l entry
+
+-- `corbatan_read`: the reading of the bytes
+pub record FlatReads (bytes : List ℕ) (r : CorbatanSheet) : Type 0 where
+  pub reading : Reading
+  pub reads : Reads bytes reading
+  pub reply : r ≡ flatReading reading
+
+-- `corbatan_print`: the printed answer to the bytes, over a list that has room for every street
+pub record FlatPrints (bytes : List ℕ) (r : CorbatanText) : Type 0 where
+  pub printed : Printed
+  pub prints : PrintsAnswer bytes maxSignals printed
+  pub reply : r ≡ flatText printed

@@ -8,16 +8,12 @@ use street::Street;
 use street::Verdict;
 use street::code_number;
 ghost use mathlib.Core.Path.{_≡_};
-ghost use Rattle.road.specs.Limits.{maxSignals};
 ghost use Rattle.street.specs.Codes.{codeOf, placeOf};
 ghost use Rattle.street.specs.Lists.{typed};
-ghost use Rattle.sheet.specs.Reading.{readingOf};
 ghost use Rattle.widths.specs.declared.Request.the-variants.{Equal, Outbound, Inbound, Platoons};
 ghost use Rattle.bands.specs.Measure.{measurementOf};
-ghost use Rattle.printed.specs.Text.{printedOf};
-ghost use Rattle.printed.specs.Way.{equalText};
-ghost use Rattle.exports.specs.Flat.{flatPlan, flatMeasure, flatReading, flatText};
-ghost use Rattle.exports.specs.Calls.{Requested};
+ghost use Rattle.exports.specs.Flat.{flatPlan, flatMeasure};
+ghost use Rattle.exports.specs.Calls.{FlatRequested, FlatReads, FlatPrints};
 
 // A plan's numbers or a refusal's, with document 01's number for the refusal. Widths, B and instants are in halves.
 #[repr(C)]
@@ -155,7 +151,7 @@ fn plan_for(
     inbound: &[u32],
     offsets: &mut [u32],
 ) -> CorbatanPlan
-    ensures { λ r. ⌜ Requested request (typed cycle (now (reds .entry)) (now (distances .entry)) (now (outbound .entry)) (now (inbound .entry))) (now (offsets .entry)) (now (offsets .exit)) r ⌝ }
+    ensures { λ r. ⌜ FlatRequested request (typed cycle (now (reds .entry)) (now (distances .entry)) (now (outbound .entry)) (now (inbound .entry))) (now (offsets .entry)) (now (offsets .exit)) r ⌝ }
 {
     plan(plans::plan_for(request, cycle, reds, distances, outbound, inbound, offsets))
 }
@@ -170,7 +166,7 @@ pub extern "C" fn corbatan_equal(
     inbound: &[u32],
     offsets: &mut [u32],
 ) -> CorbatanPlan
-    ensures { λ r. ⌜ Requested Equal (typed cycle (now (reds .entry)) (now (distances .entry)) (now (outbound .entry)) (now (inbound .entry))) (now (offsets .entry)) (now (offsets .exit)) r ⌝ }
+    ensures { λ r. ⌜ FlatRequested Equal (typed cycle (now (reds .entry)) (now (distances .entry)) (now (outbound .entry)) (now (inbound .entry))) (now (offsets .entry)) (now (offsets .exit)) r ⌝ }
 {
     plan_for(
         Request::Equal,
@@ -194,7 +190,7 @@ pub extern "C" fn corbatan_outbound(
     width: u32,
     offsets: &mut [u32],
 ) -> CorbatanPlan
-    ensures { λ r. ⌜ Requested (Outbound width) (typed cycle (now (reds .entry)) (now (distances .entry)) (now (outbound .entry)) (now (inbound .entry))) (now (offsets .entry)) (now (offsets .exit)) r ⌝ }
+    ensures { λ r. ⌜ FlatRequested (Outbound width) (typed cycle (now (reds .entry)) (now (distances .entry)) (now (outbound .entry)) (now (inbound .entry))) (now (offsets .entry)) (now (offsets .exit)) r ⌝ }
 {
     plan_for(
         Request::Outbound(width),
@@ -218,7 +214,7 @@ pub extern "C" fn corbatan_inbound(
     width: u32,
     offsets: &mut [u32],
 ) -> CorbatanPlan
-    ensures { λ r. ⌜ Requested (Inbound width) (typed cycle (now (reds .entry)) (now (distances .entry)) (now (outbound .entry)) (now (inbound .entry))) (now (offsets .entry)) (now (offsets .exit)) r ⌝ }
+    ensures { λ r. ⌜ FlatRequested (Inbound width) (typed cycle (now (reds .entry)) (now (distances .entry)) (now (outbound .entry)) (now (inbound .entry))) (now (offsets .entry)) (now (offsets .exit)) r ⌝ }
 {
     plan_for(
         Request::Inbound(width),
@@ -243,7 +239,7 @@ pub extern "C" fn corbatan_platoons(
     inbound_platoon: u32,
     offsets: &mut [u32],
 ) -> CorbatanPlan
-    ensures { λ r. ⌜ Requested (Platoons «outbound_platoon» «inbound_platoon») (typed cycle (now (reds .entry)) (now (distances .entry)) (now (outbound .entry)) (now (inbound .entry))) (now (offsets .entry)) (now (offsets .exit)) r ⌝ }
+    ensures { λ r. ⌜ FlatRequested (Platoons «outbound_platoon» «inbound_platoon») (typed cycle (now (reds .entry)) (now (distances .entry)) (now (outbound .entry)) (now (inbound .entry))) (now (offsets .entry)) (now (offsets .exit)) r ⌝ }
 {
     plan_for(
         Request::Platoons(outbound_platoon, inbound_platoon),
@@ -274,7 +270,7 @@ pub extern "C" fn corbatan_measure(
 // The numbers of a sheet's bytes. The arrays are filled where they stand and copied once, into the reply.
 #[no_mangle]
 pub extern "C" fn corbatan_read(bytes: &[u8]) -> CorbatanSheet
-    ensures { λ r. ⌜ r ≡ flatReading (readingOf (now (bytes .entry))) ⌝ }
+    ensures { λ r. ⌜ FlatReads (now (bytes .entry)) r ⌝ }
 {
     let mut reds = [0u32; Street::MAX_SIGNALS];
     let mut distances = [0u32; Street::MAX_SIGNALS];
@@ -304,7 +300,7 @@ pub extern "C" fn corbatan_read(bytes: &[u8]) -> CorbatanSheet
 // The printed equal plan of a sheet's bytes, or the line of its refusal. The list for the offsets has room for every street.
 #[no_mangle]
 pub extern "C" fn corbatan_print(bytes: &[u8]) -> CorbatanText
-    ensures { λ r. ⌜ r ≡ flatText (printedOf (equalText (now (bytes .entry)) maxSignals)) ⌝ }
+    ensures { λ r. ⌜ FlatPrints (now (bytes .entry)) r ⌝ }
 {
     let text = printed::equal_text(bytes, Street::MAX_SIGNALS);
     let bytes = text.bytes;

@@ -7,7 +7,8 @@ use mathlib.Core.List.{List, [], _∷_, _++_, append-assoc}
 use lib.ListN.{length, drop, getD, drop-of-length-le, length-append}
 use lib.Seq.{drop-cons}
 use Rattle.decimal.specs.Decimal.{decimal}
-use Rattle.printed.specs.Text.{line, offsetLines}
+use Rattle.decimal.specs.Lines.{line}
+use Rattle.printed.specs.Text.{offsetLines}
 
 module _ (l : List ℕ) (i : ℕ) where
   pub offset-line : i < length l → offsetLines (drop i l) ≡ (decimal (getD l i 0) ++ 10 ∷ []) ++ offsetLines (drop (i + 1) l)

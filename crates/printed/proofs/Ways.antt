@@ -14,13 +14,15 @@ use Rattle.circle.proofs.Numbers.{length-listBelow}
 use Rattle.road.specs.Limits.{maxSignals}
 use Rattle.street.specs.Lists.{Lists, signals}
 use Rattle.street.specs.Streets.{timed, m}
+use Rattle.street.specs.Checks.{refuse}
+use Rattle.street.specs.declared.Code.{Code}
 use Rattle.street.specs.declared.Refusal.{Refusal}
 use Rattle.street.specs.declared.Verdict.{Verdict}
 use Rattle.street.specs.declared.Verdict.the-variants.{Passed, Refused}
 use Rattle.sheet.specs.Form.{Writable}
-use Rattle.sheet.specs.Reading.{Parsed, accepted, refused, parsed, padded, sheetOf, reply, readingOf}
+use Rattle.sheet.specs.Reading.{inArray, sheetOf, refusing, Reads}
 use Rattle.sheet.specs.declared.Reading.{Reading}
-use Rattle.sheet.proofs.Form.{text-is-accepted, passed-is-text}
+use Rattle.sheet.proofs.ByForm.{so-too, either-way}
 use Rattle.widths.specs.declared.Request.the-variants.{Equal}
 use Rattle.widths.specs.declared.Shift.the-variants.{Unmoved}
 use Rattle.offsets.specs.Moved.{movedOffset}
@@ -30,7 +32,8 @@ use Rattle.plans.specs.declared.Plan.{Plan}
 use Rattle.plans.specs.declared.Answer.{Answer}
 use Rattle.printed.specs.declared.Printed.{Printed}
 use Rattle.printed.specs.Text.{maxText, planLine, offsetLines, refusalLine, textOf, Prints}
-use Rattle.printed.specs.Way.{listsOf, lentOf, planText, answerText, equalText, Held}
+use Rattle.printed.specs.Way.{lentOf, planText, Answers, PrintsAnswer}
+use Rattle.printed.specs.Steps.{listsOf, Held}
 
 pub lent-room : (room : ℕ) → room < maxSignals → room ≡ lentOf room
 lent-room room l = ap (λ t. cond t room maxSignals) (sym (lt-ltb room maxSignals l))
@@ -97,12 +100,12 @@ plan-text l room k n r before after rest lent size clean ok =
     ∙ ap₂ (λ (i : ℕ) xs. textOf (requestAnswer Equal l i) (take (signals l) (requestAfter Equal l xs))) long start
 
 -- a sheet's arrays hold its lists
-take-padded : (n : ℕ) (xs : List ℕ) → length xs ≡ n → take n (padded xs) ≡ xs
-take-padded n xs e = take-at xs (drop (length xs) (replicate maxSignals 0)) n e
+take-in-array : (n : ℕ) (xs : List ℕ) → length xs ≡ n → take n (inArray xs) ≡ xs
+take-in-array n xs e = take-at xs (drop (length xs) (replicate maxSignals 0)) n e
 
-length-padded : (xs : List ℕ) → length xs ≤ maxSignals → length (padded xs) ≡ maxSignals
+length-in-array : (xs : List ℕ) → length xs ≤ maxSignals → length (inArray xs) ≡ maxSignals
 unfolding zeros
-length-padded xs l =
+length-in-array xs l =
     omega (arith, length-append xs (drop (length xs) (zeros maxSignals)), length-drop (length xs) (zeros maxSignals), length-replicate {A = ℕ} maxSignals 0)
 
 lists-back : (l : Lists) → Writable l → listsOf (sheetOf l) ≡ l
@@ -110,10 +113,10 @@ lists-back l ok =
     λ i.
     record {
       cycle = l .cycle;
-      reds = take-padded (signals l) (l .reds) refl i;
-      distances = take-padded (signals l) (l .distances) (ok .distances) i;
-      outbound = take-padded (signals l - 1) (l .outbound) (ok .outbound) i;
-      inbound = take-padded (signals l - 1) (l .inbound) (ok .inbound) i;
+      reds = take-in-array (signals l) (l .reds) refl i;
+      distances = take-in-array (signals l) (l .distances) (ok .distances) i;
+      outbound = take-in-array (signals l - 1) (l .outbound) (ok .outbound) i;
+      inbound = take-in-array (signals l - 1) (l .inbound) (ok .inbound) i;
     }
 
 held : (l : Lists) → Writable l → Held (sheetOf l)
@@ -121,34 +124,38 @@ held l ok =
     record {
       some = ok .some;
       few = ok .few;
-      reds = length-padded (l .reds) (ok .few);
-      distances = length-padded (l .distances) (omega (arith, ok .few, ok .distances));
-      outbound = length-padded (l .outbound) (omega (arith, ok .few, ok .outbound));
-      inbound = length-padded (l .inbound) (omega (arith, ok .few, ok .inbound));
+      reds = length-in-array (l .reds) (ok .few);
+      distances = length-in-array (l .distances) (omega (arith, ok .few, ok .distances));
+      outbound = length-in-array (l .outbound) (omega (arith, ok .few, ok .outbound));
+      inbound = length-in-array (l .inbound) (omega (arith, ok .few, ok .inbound));
     }
 
--- what an accepted reading tells
-pub reading-held : (bytes : List ℕ) (r : Reading) → r ≡ readingOf bytes → r .verdict ≡ Passed → Held (r .sheet)
-reading-held bytes r e p =
-    let read = passed-is-text bytes (sym (ap (λ x. x .verdict) e) ∙ p) in
-    subst Held (sym (ap (λ x. x .sheet) (e ∙ read .3))) (held (read .0) (read .2))
+-- a refusal is no street's numbers
+not-passing : {r : Reading} (c : Code) → r .verdict ≡ Passed → r ≡ refusing c → ⊥
+not-passing {r} c p e = let z : Passed ≡ refuse c 0 = sym p ∙ ap (λ x. x .verdict) e in let y : _≡_ {A = ℕ} 0 1 = cc in omega arith
 
-pub accepted-text : (bytes : List ℕ) (room : ℕ) (r : Reading) → r ≡ readingOf bytes → r .verdict ≡ Passed → planText (listsOf (r .sheet)) room ≡ equalText bytes room
-unfolding equalText
-accepted-text bytes room r e p =
-    let read = passed-is-text bytes (sym (ap (λ x. x .verdict) e) ∙ p) in
-    ap (λ x. planText (listsOf x) room) (ap (λ x. x .sheet) (e ∙ read .3))
-    ∙ ap (λ l. planText l room) (lists-back (read .0) (read .2))
-    ∙ sym (ap (λ x. answerText x room) (ap parsed (read .1) ∙ text-is-accepted (read .0) (read .2)))
+-- what a passed reading tells
+pub reading-held : {bytes : List ℕ} {r : Reading} → Reads bytes r → r .verdict ≡ Passed → Held (r .sheet)
+reading-held {bytes} {r} read p =
+    either-way (λ l w e. subst Held (sym (ap (λ x. x .sheet) e)) (held l w)) (λ c e. absurd (not-passing c p e)) read
+
+pub passed-answers : {bytes : List ℕ} (room : ℕ) {r : Reading} → Reads bytes r → r .verdict ≡ Passed → Answers bytes room (planText (listsOf (r .sheet)) room)
+passed-answers {bytes} room {r} read p =
+    so-too
+    (λ l w e. ap (λ x. planText (listsOf x) room) (ap (λ x. x .sheet) e) ∙ ap (λ m. planText m room) (lists-back l w))
+    (λ c e. absurd (not-passing c p e))
+    read
 
 -- and a refused one
-pub refused-text : (bytes : List ℕ) (room : ℕ) (r : Reading) (f : Refusal) → r ≡ readingOf bytes → r .verdict ≡ Refused f → refusalLine f ≡ equalText bytes room
-unfolding equalText
-refused-text bytes room r f e q = go (parsed bytes) (sym (ap (λ x. x .verdict) e) ∙ q)
-  where
-    go : (p : Parsed) → reply p .verdict ≡ Refused f → refusalLine f ≡ answerText p room
-    go (accepted l) v = let z : _≡_ {A = ℕ} 0 1 = cc in absurd (omega arith)
-    go (refused c) v = let same : record { code = c; place = 0 } ≡ f = cc in ap refusalLine (sym same)
+pub refused-answers : {bytes : List ℕ} (room : ℕ) {r : Reading} {f : Refusal} → Reads bytes r → r .verdict ≡ Refused f → Answers bytes room (refusalLine f)
+refused-answers {bytes} room {r} {f} read q =
+    so-too
+    (λ l w e. absurd (let z : Passed ≡ Refused f = sym (ap (λ x. x .verdict) e) ∙ q in let y : _≡_ {A = ℕ} 0 1 = cc in omega arith))
+    (λ c e.
+    let z : Refused f ≡ refuse c 0 = sym q ∙ ap (λ x. x .verdict) e in
+    let same : f ≡ record { code = c; place = 0 } = cc in
+    ap refusalLine same)
+    read
 
 -- a text lies within its buffer
 pub text-within : {t : List ℕ} {r : Printed} → Prints t r → r .count ≤ length (r .bytes)
@@ -162,3 +169,7 @@ text-count {t} {r} ok = sym (length-take-le (r .count) (r .bytes) (text-within o
 pub text-is : {t : List ℕ} {r : Printed} → Prints t r → take (r .count) (r .bytes) ≡ t
 text-is {t} {r} ok =
     ap (λ p. take (p .count) (p .bytes)) (ok .reply) ∙ take-append-seam t (drop (length t) (replicate maxText 0))
+
+-- so they answer the sheet
+pub sent : {bytes : List ℕ} {room : ℕ} {r : Printed} → PrintsAnswer bytes room r → Answers bytes room (take (r .count) (r .bytes))
+sent {bytes} {room} ok = subst (Answers bytes room) (sym (text-is (ok .prints))) (ok .answers)

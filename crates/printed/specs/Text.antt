@@ -1,4 +1,4 @@
--- The text of an answer, byte by byte (01, 'The printed plan'). Byte 32 is a space, 10 the line end.
+-- The text of an answer, byte by byte (01, 'The printed plan').
 use Prim.Native.Nat.{ℕ}
 use mathlib.Core.Path.{_≡_}
 use mathlib.Core.List.{List, [], _∷_, _++_}
@@ -6,6 +6,7 @@ use lib.ListN.{length, drop, replicate}
 use Rattle.street.specs.Codes.{codeNumber}
 use Rattle.street.specs.declared.Refusal.{Refusal}
 use Rattle.decimal.specs.Decimal.{decimal, signedDecimal}
+use Rattle.decimal.specs.Lines.{line}
 use Rattle.plans.specs.declared.Plan.{Plan}
 use Rattle.plans.specs.declared.Answer.{Answer}
 use Rattle.plans.specs.declared.Answer.the-variants as answer
@@ -14,16 +15,6 @@ use Rattle.printed.specs.declared.Printed.{Printed}
 -- the most bytes that a text has room for
 abbrev pub maxText : ℕ
 maxText = 512
-
--- items with one space between each two
-abbrev pub spaced : List (List ℕ) → List ℕ
-spaced [] = []
-spaced (x ∷ []) = x
-spaced (x ∷ (y ∷ items)) = x ++ 32 ∷ spaced (y ∷ items)
-
--- a line: its items, spaced, and the line end
-abbrev pub line : List (List ℕ) → List ℕ
-line items = spaced items ++ 10 ∷ []
 
 -- a plan's first line: c, B, outbound width, inbound width and m
 abbrev pub planLine : Plan → List ℕ
@@ -42,12 +33,12 @@ offsetLines [] = []
 offsetLines (f ∷ offsets) = line (decimal f ∷ []) ++ offsetLines offsets
 
 -- the letters of `refused`
-abbrev pub refused : List ℕ
-refused = 114 ∷ 101 ∷ 102 ∷ 117 ∷ 115 ∷ 101 ∷ 100 ∷ []
+abbrev pub refusedWord : List ℕ
+refusedWord = 114 ∷ 101 ∷ 102 ∷ 117 ∷ 115 ∷ 101 ∷ 100 ∷ []
 
 -- a refusal's one line: the word, the code's number and the place
 abbrev pub refusalLine : Refusal → List ℕ
-refusalLine f = line (refused ∷ decimal (codeNumber (f .code)) ∷ decimal (f .place) ∷ [])
+refusalLine f = line (refusedWord ∷ decimal (codeNumber (f .code)) ∷ decimal (f .place) ∷ [])
 
 -- the text of an answer whose offsets are those of the list
 abbrev pub textOf : Answer → List ℕ → List ℕ

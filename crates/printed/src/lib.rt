@@ -16,7 +16,8 @@ ghost use lib.ListN.{length, take};
 ghost use Rattle.road.specs.Limits.{maxSignals};
 ghost use Rattle.decimal.specs.Writing.{Writes};
 ghost use Rattle.printed.specs.Text.{maxText, planLine, offsetLines, refusalLine, textOf, printedOf, Prints};
-ghost use Rattle.printed.specs.Way.{listsOf, lentOf, planText, equalText, Held};
+ghost use Rattle.printed.specs.Way.{lentOf, planText, PrintsAnswer};
+ghost use Rattle.printed.specs.Steps.{listsOf, Held};
 
 // The bytes that end a number: within a line and at its end.
 const SPACE: u8 = 32;
@@ -145,7 +146,7 @@ fn planned(s: Sheet, room: usize) -> Printed
 
 // The whole way: from a sheet's bytes to the printed bytes of its equal plan, over a lent list of `room` entries that are 0.
 pub fn equal_text(bytes: &[u8], room: usize) -> Printed
-    ensures { λ r. ⌜ Prints (equalText (now (bytes .entry)) room) r ⌝ }
+    ensures { λ r. ⌜ PrintsAnswer (now (bytes .entry)) room r ⌝ }
 {
     let reading = sheet::read(bytes);
     let verdict = reading.verdict;

@@ -7,17 +7,17 @@ use mathlib.Core.List.{List, _∷_}
 use native.Mathlib.Omega.{arith}
 use Rattle.street.specs.declared.Code.{Code}
 use Rattle.street.specs.declared.Code.the-variants.{Sheet}
-use Rattle.sheet.specs.Numbers.{Taken, spaced, ended, unreadable, number, thenLine, thenSpace}
-use Rattle.sheet.specs.Sections.{Lines, lines, fault, above, pairs}
+use Rattle.sheet.specs.Steps.Numbers.{Taken, followed, ended, unreadable, number, thenLine, thenSpace}
+use Rattle.sheet.specs.Steps.Sections.{Lines, lines, fault, above, pairs}
 
 module _ {A : Type 0} (f : A) (next : ℕ → List ℕ → A) (a : A) (other : f ≡ a → ⊥) where
-  pub past-space : (t : Taken) → thenSpace f t next ≡ a → (v : ℕ) × (rest : List ℕ) × (t ≡ spaced v rest) × (next v rest ≡ a)
-  past-space (spaced v rest) e = (v, rest, refl, e)
+  pub past-space : (t : Taken) → thenSpace f t next ≡ a → (v : ℕ) × (rest : List ℕ) × (t ≡ followed v rest) × (next v rest ≡ a)
+  past-space (followed v rest) e = (v, rest, refl, e)
   past-space (ended v rest) e = absurd (other e)
   past-space unreadable e = absurd (other e)
 
   pub past-line : (t : Taken) → thenLine f t next ≡ a → (v : ℕ) × (rest : List ℕ) × (t ≡ ended v rest) × (next v rest ≡ a)
-  past-line (spaced v rest) e = absurd (other e)
+  past-line (followed v rest) e = absurd (other e)
   past-line (ended v rest) e = (v, rest, refl, e)
   past-line unreadable e = absurd (other e)
 
@@ -47,7 +47,7 @@ pub record FirstLine (n : ℕ) (bytes xs ys rest : List ℕ) : Type 0 where
   pub y : ℕ
   pub middle : List ℕ
   pub after : List ℕ
-  pub first : number bytes ≡ spaced x middle
+  pub first : number bytes ≡ followed x middle
   pub second : number middle ≡ ended y after
   pub below : Below x y (pairs n after) xs ys rest
 

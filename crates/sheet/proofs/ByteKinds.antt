@@ -9,7 +9,7 @@ use borrow.Author.Tests.{le-leb, lt-leb, leb-true, eqb-true, ne-eqb}
 use Rattle.street.specs.Checks.{within}
 use Rattle.sheet.specs.declared.Byte.{Byte}
 use Rattle.sheet.specs.declared.Byte.the-variants.{Digit, Space, LineEnd, Other}
-use Rattle.sheet.specs.Bytes.{kindOf}
+use Rattle.sheet.specs.Steps.Kinds.{kindOf}
 
 pub digit-kind : (b : ℕ) → 48 ≤ b → b ≤ 57 → kindOf b ≡ Digit (b - 48)
 unfolding kindOf

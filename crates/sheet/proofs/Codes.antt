@@ -12,10 +12,10 @@ use Rattle.street.specs.Lists.{Lists}
 use Rattle.street.specs.Checks.{within}
 use Rattle.street.specs.declared.Code.{Code}
 use Rattle.street.specs.declared.Code.the-variants.{Sheet, Count}
-use Rattle.sheet.specs.Bytes.{maxBytes}
-use Rattle.sheet.specs.Numbers.{Taken, spaced, ended, unreadable, number, thenLine, thenSpace}
-use Rattle.sheet.specs.Sections.{Lines, lines, fault, above, pairs, section, cycleSection}
-use Rattle.sheet.specs.Reading.{Parsed, accepted, refused, parsed, afterCycle, afterSignals, atEnd, thenLines}
+use Rattle.sheet.specs.Form.{maxBytes}
+use Rattle.sheet.specs.Steps.Numbers.{Taken, followed, ended, unreadable, number, thenLine, thenSpace}
+use Rattle.sheet.specs.Steps.Sections.{Lines, lines, fault, above, pairs, section, cycleSection}
+use Rattle.sheet.specs.Steps.Parsed.{Parsed, accepted, refused, parsed, afterCycle, afterSignals, atEnd, thenLines}
 
 -- one of the reader's two codes
 abbrev pub Own : Code → Type 0
@@ -31,12 +31,12 @@ OwnRefusal (refused c) = Own c
 
 module _ {A : Type 0} (P : A → Type 0) (f : A) (at-fault : P f) (next : ℕ → List ℕ → A) (later : (x : ℕ) (rest : List ℕ) → P (next x rest)) where
   after-space : (t : Taken) → P (thenSpace f t next)
-  after-space (spaced x rest) = later x rest
+  after-space (followed x rest) = later x rest
   after-space (ended x rest) = at-fault
   after-space unreadable = at-fault
 
   after-line : (t : Taken) → P (thenLine f t next)
-  after-line (spaced x rest) = at-fault
+  after-line (followed x rest) = at-fault
   after-line (ended x rest) = later x rest
   after-line unreadable = at-fault
 

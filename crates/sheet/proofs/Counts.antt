@@ -16,11 +16,11 @@ use Rattle.street.specs.Checks.{within}
 use Rattle.street.specs.declared.Code.{Code}
 use Rattle.street.specs.declared.Code.the-variants.{Sheet, Count}
 use Rattle.decimal.specs.Decimal.{decimal}
-use Rattle.sheet.specs.Bytes.{maxBytes, lineEnd}
-use Rattle.sheet.specs.Numbers.{ended, number, thenLine}
-use Rattle.sheet.specs.Sections.{Lines, lines, fault, above, pairs, section, cycleSection}
-use Rattle.sheet.specs.Reading.{Parsed, accepted, refused, thenLines, atEnd, afterSignals, afterCycle, parsed}
-use Rattle.sheet.specs.Form.{line, pairLines, Short, SignalCount, LinkCount, CountFault}
+use Rattle.decimal.specs.Lines.{lineEnd}
+use Rattle.sheet.specs.Form.{maxBytes, pairLines, EightDigits, SignalCount, LinkCount, CountFault}
+use Rattle.sheet.specs.Steps.Numbers.{number, thenLine}
+use Rattle.sheet.specs.Steps.Sections.{Lines, lines, fault, above, pairs, section, cycleSection}
+use Rattle.sheet.specs.Steps.Parsed.{Parsed, refused, thenLines, atEnd, afterSignals, afterCycle, parsed}
 use Rattle.sheet.proofs.Backwards.{past-space, past-line, past-test}
 use Rattle.sheet.proofs.Decimals.{line-read}
 use Rattle.sheet.proofs.LineForms.{pairs-read, section-read, cycle-read, line-wrote, cycle-wrote, SectionWrote, section-wrote}
@@ -32,7 +32,7 @@ abbrev Outside : ℕ → ℕ → ℕ → Type 0
 Outside least most n = (n < least) ⊎ (most < n)
 
 -- a section whose count's line has such a number
-miscounted-read : (least most n : ℕ) (rest : List ℕ) → Outside least most n → Short n → section least most (decimal n ++ lineEnd ∷ rest) ≡ fault Count
+miscounted-read : (least most n : ℕ) (rest : List ℕ) → Outside least most n → EightDigits n → section least most (decimal n ++ lineEnd ∷ rest) ≡ fault Count
 unfolding section
 miscounted-read least most n rest o s = rw (line-read n rest s) (⊎-elim few many o)
   where
@@ -47,7 +47,7 @@ miscounted-read least most n rest o s = rw (line-read n rest s) (⊎-elim few ma
         by-test false = refl
 
 -- after the first section reading goes on with the signals
-from-cycle : (bytes : List ℕ) (cycle : ℕ) (rest : List ℕ) → length bytes ≤ maxBytes → Short cycle →
+from-cycle : (bytes : List ℕ) (cycle : ℕ) (rest : List ℕ) → length bytes ≤ maxBytes → EightDigits cycle →
     bytes ≡ decimal 1 ++ lineEnd ∷ (decimal cycle ++ lineEnd ∷ rest) → parsed bytes ≡ afterCycle cycle rest
 unfolding parsed
 from-cycle bytes cycle rest short s e = rw (le-leb (length bytes) maxBytes short, e, cycle-read cycle rest s) refl
@@ -125,7 +125,7 @@ record Miscounted (least most : ℕ) (bytes : List ℕ) : Type 0 where
   count : ℕ
   rest : List ℕ
   form : bytes ≡ decimal count ++ lineEnd ∷ rest
-  short : Short count
+  short : EightDigits count
   wrong : Outside least most count
 
 section-miscounted : (least most : ℕ) (bytes : List ℕ) → section least most bytes ≡ fault Count → Miscounted least most bytes
@@ -146,7 +146,7 @@ section-miscounted least most bytes e =
     by-test n r true t q = absurd (pairs-count n r q)
     by-test n r false t q = outside least most n t
 
-module _ (bytes : List ℕ) (cycle : ℕ) (s : Short cycle) where
+module _ (bytes : List ℕ) (cycle : ℕ) (s : EightDigits cycle) where
   links-miscounted : (distances reds after later : List ℕ) → bytes ≡ decimal 1 ++ lineEnd ∷ (decimal cycle ++ lineEnd ∷ after) →
       SectionWrote minSignals maxSignals after distances reds later →
       Miscounted (length reds - 1) (length reds - 1) later → LinkCount bytes
@@ -192,7 +192,7 @@ end-counts l [] e = let z : _≡_ {A = ℕ} 0 1 = cc in omega arith
 end-counts l (b ∷ bytes) e = not-refused e
 
 -- what the sections after the cycle tell of a code 2
-after-cycle : (bytes : List ℕ) (cycle : ℕ) (after : List ℕ) → Short cycle → bytes ≡ decimal 1 ++ lineEnd ∷ (decimal cycle ++ lineEnd ∷ after) →
+after-cycle : (bytes : List ℕ) (cycle : ℕ) (after : List ℕ) → EightDigits cycle → bytes ≡ decimal 1 ++ lineEnd ∷ (decimal cycle ++ lineEnd ∷ after) →
     afterCycle cycle after ≡ refused Count → SignalCount bytes ⊎ LinkCount bytes
 unfolding afterCycle afterSignals
 after-cycle bytes cycle after s e q = by-signals (section minSignals maxSignals after) refl q

@@ -10,12 +10,13 @@ use lib.Dec.{leb}
 use lib.Seq.{append-snoc}
 use borrow.Author.Tests.{le-leb, leb-true}
 use Rattle.street.specs.Checks.{within}
+use Rattle.decimal.specs.Decimal.{decimal, digitsUpTo}
+use Rattle.decimal.specs.Lines.{space, lineEnd}
 use Rattle.sheet.specs.declared.Byte.{Byte}
 use Rattle.sheet.specs.declared.Byte.the-variants.{Digit, Space, LineEnd, Other}
-use Rattle.decimal.specs.Decimal.{decimal, digitsUpTo}
-use Rattle.sheet.specs.Bytes.{kindOf, space, lineEnd}
-use Rattle.sheet.specs.Numbers.{Taken, spaced, ended, unreadable, onByte, onFirst, more, number}
-use Rattle.sheet.specs.Form.{Short}
+use Rattle.sheet.specs.Form.{EightDigits}
+use Rattle.sheet.specs.Steps.Kinds.{kindOf}
+use Rattle.sheet.specs.Steps.Numbers.{Taken, followed, ended, unreadable, onByte, onFirst, more, number}
 use Rattle.decimal.proofs.Digits.{by-size, one-digit, more-digits, tenth, next-digit}
 use Rattle.sheet.proofs.ByteKinds.{digit-kind, digit-is, space-is, line-end-is, IsDigit}
 
@@ -32,7 +33,7 @@ next-read : (x d : ℕ) (tail : List ℕ) → 1 ≤ x → x ≤ 9999999 → d �
 unfolding more
 next-read x d tail low high h = rw (digit-byte d h, le-leb 1 x low, le-leb x 9999999 high) refl
 
-digits-read : (k x : ℕ) (tail : List ℕ) → x < 10 ^ suc k → Short x → number (digitsUpTo (suc k) x ++ tail) ≡ more x tail
+digits-read : (k x : ℕ) (tail : List ℕ) → x < 10 ^ suc k → EightDigits x → number (digitsUpTo (suc k) x ++ tail) ≡ more x tail
 digits-read zero x tail h s =
     let t : x < 10 = h in
     rw (one-digit 0 x t) (first-read x tail (omega arith))
@@ -46,11 +47,11 @@ digits-read (suc k) x tail h s =
     ∙ next-read (x / 10) (x % 10) tail (omega arith) (omega arith) (omega arith)
     ∙ ap (λ (v : ℕ). more v tail) whole))
 
-pub space-read : (x : ℕ) (rest : List ℕ) → Short x → number (decimal x ++ space ∷ rest) ≡ spaced x rest
+pub space-read : (x : ℕ) (rest : List ℕ) → EightDigits x → number (decimal x ++ space ∷ rest) ≡ followed x rest
 unfolding more kindOf
 space-read x rest s = digits-read 19 x (space ∷ rest) (omega arith) s
 
-pub line-read : (x : ℕ) (rest : List ℕ) → Short x → number (decimal x ++ lineEnd ∷ rest) ≡ ended x rest
+pub line-read : (x : ℕ) (rest : List ℕ) → EightDigits x → number (decimal x ++ lineEnd ∷ rest) ≡ ended x rest
 unfolding more kindOf
 line-read x rest s = digits-read 19 x (lineEnd ∷ rest) (omega arith) s
 
@@ -58,16 +59,16 @@ line-read x rest s = digits-read 19 x (lineEnd ∷ rest) (omega arith) s
 
 -- the bytes that a number read stands for: its digits, the byte that ended it and the bytes after
 abbrev pub Wrote : Taken → List ℕ → Type 0
-Wrote (spaced x rest) bytes = (bytes ≡ decimal x ++ space ∷ rest) × Short x
-Wrote (ended x rest) bytes = (bytes ≡ decimal x ++ lineEnd ∷ rest) × Short x
+Wrote (followed x rest) bytes = (bytes ≡ decimal x ++ space ∷ rest) × EightDigits x
+Wrote (ended x rest) bytes = (bytes ≡ decimal x ++ lineEnd ∷ rest) × EightDigits x
 Wrote unreadable bytes = Unit
 
-more-wrote : (x : ℕ) (bytes : List ℕ) → Short x → Wrote (more x bytes) (decimal x ++ bytes)
+more-wrote : (x : ℕ) (bytes : List ℕ) → EightDigits x → Wrote (more x bytes) (decimal x ++ bytes)
 unfolding more
 more-wrote x [] s = tt
 more-wrote x (b ∷ bytes) s = by-kind (kindOf b) refl (λ d t. more-wrote (10 * x + d) bytes t)
   where
-    by-kind : (k : Byte) → kindOf b ≡ k → ((d : ℕ) → Short (10 * x + d) → Wrote (more (10 * x + d) bytes) (decimal (10 * x + d) ++ bytes)) →
+    by-kind : (k : Byte) → kindOf b ≡ k → ((d : ℕ) → EightDigits (10 * x + d) → Wrote (more (10 * x + d) bytes) (decimal (10 * x + d) ++ bytes)) →
         Wrote (onByte k (λ d. cond (within 1 9999999 x) (more (10 * x + d) bytes) unreadable) x bytes) (decimal x ++ b ∷ bytes)
     by-kind (Digit d) e next = by-tests (leb 1 x) (leb x 9999999) refl refl
       where

@@ -9,13 +9,14 @@ use lib.Dec.{lit<, lit≤}
 use Rattle.street.specs.Lists.{Lists}
 use Rattle.street.specs.declared.Code.the-variants as code
 use Rattle.street.specs.declared.Verdict.the-variants as verdict
-use Rattle.sheet.specs.declared.Reading.{Reading}
 use Rattle.decimal.specs.Decimal.{digitsUpTo}
-use Rattle.sheet.specs.Bytes.{kindOf}
-use Rattle.sheet.specs.Numbers.{more, number}
-use Rattle.sheet.specs.Sections.{pairs, section, cycleSection}
-use Rattle.sheet.specs.Reading.{readingOf, refusing, parsed, afterCycle, afterSignals, sheetOf}
-use Rattle.sheet.specs.Form.{text, pairLines, Writable, SignalCount, LinkCount, CountFault}
+use Rattle.sheet.specs.declared.Reading.{Reading}
+use Rattle.sheet.specs.Form.{text, pairLines, Writable, CountFault}
+use Rattle.sheet.specs.Reading.{refusing, sheetOf}
+use Rattle.sheet.specs.Steps.Kinds.{kindOf}
+use Rattle.sheet.specs.Steps.Numbers.{more, number}
+use Rattle.sheet.specs.Steps.Sections.{pairs, section, cycleSection}
+use Rattle.sheet.specs.Steps.Parsed.{readingOf, parsed, afterCycle, afterSignals}
 use Rattle.sheet.proofs.ByForm.{Written, Broken, refused-is-broken}
 
 -- street A of 01

@@ -14,11 +14,12 @@ use Rattle.street.specs.declared.Code.{Code}
 use Rattle.street.specs.declared.Code.the-variants.{Sheet}
 use Rattle.street.specs.declared.Verdict.the-variants.{Passed}
 use Rattle.decimal.specs.Decimal.{decimal}
-use Rattle.sheet.specs.Bytes.{maxBytes, lineEnd}
-use Rattle.sheet.specs.Numbers.{thenLine}
-use Rattle.sheet.specs.Sections.{Lines, lines, fault, pairs, section, cycleSection}
-use Rattle.sheet.specs.Reading.{Parsed, accepted, refused, thenLines, atEnd, afterSignals, afterCycle, parsed, sheetOf, reply, readingOf}
-use Rattle.sheet.specs.Form.{pairLines, text, Short, Writable}
+use Rattle.decimal.specs.Lines.{lineEnd}
+use Rattle.sheet.specs.Form.{maxBytes, pairLines, text, EightDigits, Writable}
+use Rattle.sheet.specs.Reading.{passing}
+use Rattle.sheet.specs.Steps.Numbers.{thenLine}
+use Rattle.sheet.specs.Steps.Sections.{Lines, lines, fault, pairs, section, cycleSection}
+use Rattle.sheet.specs.Steps.Parsed.{Parsed, accepted, refused, thenLines, atEnd, afterSignals, afterCycle, parsed, toReading, readingOf}
 use Rattle.sheet.proofs.Backwards.{past-line, past-test}
 use Rattle.sheet.proofs.LineForms.{pairs-read, section-read, cycle-read, SectionWrote, section-wrote, cycle-wrote}
 
@@ -77,7 +78,7 @@ numbers cycle distances reds outbound inbound =
 
 -- three sections that were read, one after the other, are the text of their numbers
 read-is-text : (bytes : List ℕ) (cycle : ℕ) (distances reds outbound inbound after later : List ℕ) → length bytes ≤ maxBytes →
-    (bytes ≡ decimal 1 ++ lineEnd ∷ (decimal cycle ++ lineEnd ∷ after)) × Short cycle →
+    (bytes ≡ decimal 1 ++ lineEnd ∷ (decimal cycle ++ lineEnd ∷ after)) × EightDigits cycle →
     SectionWrote minSignals maxSignals after distances reds later →
     SectionWrote (length reds - 1) (length reds - 1) later outbound inbound [] →
     (bytes ≡ text (numbers cycle distances reds outbound inbound)) × Writable (numbers cycle distances reds outbound inbound)
@@ -134,15 +135,15 @@ accepted-is-text bytes l e =
 -- ---- the same, said of the reader's answer
 
 -- the reader hands back the numbers of a writable street's text
-pub text-is-read : (l : Lists) → Writable l → readingOf (text l) ≡ record { verdict = Passed; sheet = sheetOf l }
-text-is-read l w = ap reply (text-is-accepted l w)
+pub text-is-read : (l : Lists) → Writable l → readingOf (text l) ≡ passing l
+text-is-read l w = ap toReading (text-is-accepted l w)
 
 -- where the reader passes a sheet, the bytes are the text of a writable street, and the numbers are that street's
 pub passed-is-text : (bytes : List ℕ) → readingOf bytes .verdict ≡ Passed →
-    (l : Lists) × (bytes ≡ text l) × Writable l × (readingOf bytes ≡ record { verdict = Passed; sheet = sheetOf l })
+    (l : Lists) × (bytes ≡ text l) × Writable l × (readingOf bytes ≡ passing l)
 passed-is-text bytes e = by-outcome (parsed bytes) refl e
   where
-    by-outcome : (p : Parsed) → parsed bytes ≡ p → reply p .verdict ≡ Passed →
-        (l : Lists) × (bytes ≡ text l) × Writable l × (readingOf bytes ≡ record { verdict = Passed; sheet = sheetOf l })
-    by-outcome (accepted l) q v = let w = accepted-is-text bytes l q in (l, w .0, w .1, ap reply q)
+    by-outcome : (p : Parsed) → parsed bytes ≡ p → toReading p .verdict ≡ Passed →
+        (l : Lists) × (bytes ≡ text l) × Writable l × (readingOf bytes ≡ passing l)
+    by-outcome (accepted l) q v = let w = accepted-is-text bytes l q in (l, w .0, w .1, ap toReading q)
     by-outcome (refused c) q v = absurd (let z : _≡_ {A = ℕ} 0 1 = cc in omega arith)

@@ -9,10 +9,10 @@ use lib.Dec.{eqb, lit<}
 use lib.ListN.{length}
 use borrow.Author.Tests.{le-leb, eqb-true}
 use Rattle.decimal.specs.Decimal.{decimal}
-use Rattle.sheet.specs.Bytes.{space, lineEnd}
-use Rattle.sheet.specs.Numbers.{Taken, spaced, ended, unreadable, number}
-use Rattle.sheet.specs.Sections.{lines, pairs, section, cycleSection}
-use Rattle.sheet.specs.Form.{pairLines, Short, AllShort}
+use Rattle.decimal.specs.Lines.{space, lineEnd}
+use Rattle.sheet.specs.Form.{pairLines, EightDigits, AllEightDigits}
+use Rattle.sheet.specs.Steps.Numbers.{Taken, followed, ended, unreadable, number}
+use Rattle.sheet.specs.Steps.Sections.{lines, pairs, section, cycleSection}
 use Rattle.sheet.proofs.Backwards.{past-line, past-test, past-pair, FirstLine}
 use Rattle.sheet.proofs.Sections.{Counted, section-counted, pairs-length, Judged, past-section}
 use Rattle.sheet.proofs.Decimals.{space-read, line-read, Wrote, number-wrote}
@@ -25,7 +25,7 @@ pair-first x y xs ys rest = simp append-assoc
 
 -- ---- what is written is read
 
-pub pairs-read : (xs ys rest : List ℕ) → length ys ≡ length xs → AllShort xs → AllShort ys →
+pub pairs-read : (xs ys rest : List ℕ) → length ys ≡ length xs → AllEightDigits xs → AllEightDigits ys →
     pairs (length xs) (pairLines xs ys ++ rest) ≡ lines xs ys rest
 unfolding pairs
 pairs-read [] [] rest e s t = unfold pairLines in refl
@@ -37,27 +37,27 @@ pairs-read (x ∷ xs) (y ∷ ys) rest e s t =
     (pair-first x y xs ys rest, space-read x (decimal y ++ lineEnd ∷ below) (s .0), line-read y below (t .0), pairs-read xs ys rest (omega arith) (s .1) (t .1))
     refl
 
-pub section-read : (least most n : ℕ) (rest : List ℕ) → least ≤ n → n ≤ most → Short n →
+pub section-read : (least most n : ℕ) (rest : List ℕ) → least ≤ n → n ≤ most → EightDigits n →
     section least most (decimal n ++ lineEnd ∷ rest) ≡ pairs n rest
 unfolding section
 section-read least most n rest low high s = rw (line-read n rest s, le-leb least n low, le-leb n most high) refl
 
-pub cycle-read : (cycle : ℕ) (rest : List ℕ) → Short cycle → cycleSection (decimal 1 ++ lineEnd ∷ (decimal cycle ++ lineEnd ∷ rest)) ≡ ended cycle rest
+pub cycle-read : (cycle : ℕ) (rest : List ℕ) → EightDigits cycle → cycleSection (decimal 1 ++ lineEnd ∷ (decimal cycle ++ lineEnd ∷ rest)) ≡ ended cycle rest
 unfolding cycleSection
 cycle-read cycle rest s = rw (line-read 1 (decimal cycle ++ lineEnd ∷ rest) (lit< tt), line-read cycle rest s) refl
 
 -- ---- what was read is what is written
 
-pub line-wrote : (bytes : List ℕ) (x : ℕ) (rest : List ℕ) → number bytes ≡ ended x rest → (bytes ≡ decimal x ++ lineEnd ∷ rest) × Short x
+pub line-wrote : (bytes : List ℕ) (x : ℕ) (rest : List ℕ) → number bytes ≡ ended x rest → (bytes ≡ decimal x ++ lineEnd ∷ rest) × EightDigits x
 line-wrote bytes x rest e = subst (λ (t : Taken). Wrote t bytes) e (number-wrote bytes)
 
-space-wrote : (bytes : List ℕ) (x : ℕ) (rest : List ℕ) → number bytes ≡ spaced x rest → (bytes ≡ decimal x ++ space ∷ rest) × Short x
+space-wrote : (bytes : List ℕ) (x : ℕ) (rest : List ℕ) → number bytes ≡ followed x rest → (bytes ≡ decimal x ++ space ∷ rest) × EightDigits x
 space-wrote bytes x rest e = subst (λ (t : Taken). Wrote t bytes) e (number-wrote bytes)
 
 pub record PairsWrote (bytes xs ys rest : List ℕ) : Type 0 where
   pub form : bytes ≡ pairLines xs ys ++ rest
-  pub lefts : AllShort xs
-  pub rights : AllShort ys
+  pub lefts : AllEightDigits xs
+  pub rights : AllEightDigits ys
 
 pub pairs-wrote : (n : ℕ) (bytes xs ys rest : List ℕ) → pairs n bytes ≡ lines xs ys rest → PairsWrote bytes xs ys rest
 unfolding pairs
@@ -85,8 +85,8 @@ pairs-wrote (suc n) bytes xs ys rest e =
 pub record SectionWrote (least most : ℕ) (bytes xs ys rest : List ℕ) : Type 0 where
   pub counted : Counted least most xs ys
   pub form : bytes ≡ decimal (length xs) ++ lineEnd ∷ (pairLines xs ys ++ rest)
-  pub lefts : AllShort xs
-  pub rights : AllShort ys
+  pub lefts : AllEightDigits xs
+  pub rights : AllEightDigits ys
 
 pub section-wrote : (least most : ℕ) (bytes xs ys rest : List ℕ) → section least most bytes ≡ lines xs ys rest →
     SectionWrote least most bytes xs ys rest
@@ -107,7 +107,7 @@ not-ended : (cycle : ℕ) (rest : List ℕ) → unreadable ≡ ended cycle rest 
 not-ended cycle rest e = let z : _≡_ {A = ℕ} 0 1 = cc in omega arith
 
 pub cycle-wrote : (bytes : List ℕ) (cycle : ℕ) (rest : List ℕ) → cycleSection bytes ≡ ended cycle rest →
-    (bytes ≡ decimal 1 ++ lineEnd ∷ (decimal cycle ++ lineEnd ∷ rest)) × Short cycle
+    (bytes ≡ decimal 1 ++ lineEnd ∷ (decimal cycle ++ lineEnd ∷ rest)) × EightDigits cycle
 unfolding cycleSection
 cycle-wrote bytes cycle rest e =
     let l = past-line unreadable (λ count r. cond (eqb count 1) (number r) unreadable) (ended cycle rest) (not-ended cycle rest) (number bytes) e in

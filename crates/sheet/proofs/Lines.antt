@@ -13,10 +13,10 @@ use Rattle.road.specs.Limits.{maxSignals}
 use Rattle.road.specs.Steps.{Zeros}
 use Rattle.street.specs.declared.Code.the-variants.{Sheet}
 use Rattle.sheet.specs.declared.Number.{Number}
-use Rattle.sheet.specs.Numbers.{spaced, ended, number}
-use Rattle.sheet.specs.Sections.{Lines, lines, fault, above, pairs}
-use Rattle.sheet.specs.Reading.{padded}
-use Rattle.sheet.specs.Cursors.{found, inArrays}
+use Rattle.sheet.specs.Reading.{inArray}
+use Rattle.sheet.specs.Steps.Numbers.{followed, ended, number}
+use Rattle.sheet.specs.Steps.Sections.{Lines, lines, fault, above, pairs}
+use Rattle.sheet.specs.Steps.Cursors.{takenAt, inArrays}
 use Rattle.sheet.proofs.Otherwise.{numberTag, no-space, no-line-end}
 
 abbrev pub prepend : List ℕ → List ℕ → Lines → Lines
@@ -53,8 +53,8 @@ filled-more i x xs h f =
 pub filled-take : (i x : ℕ) (xs : List ℕ) → i < maxSignals → Filled i xs → take (i + 1) (set xs i x) ≡ take i xs ++ x ∷ []
 filled-take i x xs h f = rw add-one (take-suc-set xs i x (omega arith))
 
-pub filled-padded : (n : ℕ) (xs : List ℕ) → n ≤ maxSignals → Filled n xs → xs ≡ padded (take n xs)
-filled-padded n xs h f =
+pub filled-in-array : (n : ℕ) (xs : List ℕ) → n ≤ maxSignals → Filled n xs → xs ≡ inArray (take n xs)
+filled-in-array n xs h f =
     sym (take-append-drop n xs)
     ∙ ap (λ (z : List ℕ). take n xs ++ z) (f .zeros ∙ ap (λ (k : ℕ). drop k (replicate maxSignals 0)) (sym size))
   where
@@ -64,7 +64,7 @@ filled-padded n xs h f =
 -- all the lines are in the arrays
 all-in : (n : ℕ) (left right rest : List ℕ) → n ≤ maxSignals → Filled n left → Filled n right →
     lines left right rest ≡ inArrays (prepend (take n left) (take n right) (lines [] [] rest))
-all-in n left right rest h f g = simp append-nil (cc (filled-padded n left h f, filled-padded n right h g))
+all-in n left right rest h f g = simp append-nil (cc (filled-in-array n left h f, filled-in-array n right h g))
 
 -- the loop over the lines: i of them are in the arrays, and the rest is read from the cursor on
 pub record SoFar (s : List ℕ) (from count : ℕ) (left right : List ℕ) (at i : ℕ) : Type 0 where
@@ -99,14 +99,14 @@ module _ {s : List ℕ} {from count : ℕ} {left right : List ℕ} {at i : ℕ} 
   faulty-here e = v .so-far .joined ∙ ap (prepend (take i left) (take i right)) e
 
   -- no first number: the lines stop here
-  pub no-first : (n : Number) → found s n ≡ number (drop at s) → (numberTag n ≡ 1) ⊎ (numberTag n ≡ 2) →
+  pub no-first : (n : Number) → takenAt s n ≡ number (drop at s) → (numberTag n ≡ 1) ⊎ (numberTag n ≡ 2) →
       pairs count (drop from s) ≡ fault Sheet
   unfolding pairs
   no-first n e o = faulty-here (rw (one-more, ← e) (no-space s _ _ n o))
 
-  module _ {x : ℕ} (next : ℕ) (p : number (drop at s) ≡ spaced x (drop next s)) where
+  module _ {x : ℕ} (next : ℕ) (p : number (drop at s) ≡ followed x (drop next s)) where
     -- no second number: they stop here too
-    pub no-second : (n : Number) → found s n ≡ number (drop next s) → (numberTag n ≡ 0) ⊎ (numberTag n ≡ 2) →
+    pub no-second : (n : Number) → takenAt s n ≡ number (drop next s) → (numberTag n ≡ 0) ⊎ (numberTag n ≡ 2) →
         pairs count (drop from s) ≡ fault Sheet
     unfolding pairs
     no-second n e o = faulty-here (rw (one-more, p, ← e) (no-line-end s _ _ n o))

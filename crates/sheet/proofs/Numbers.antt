@@ -10,15 +10,15 @@ use lib.ListN.{length, getD, drop, drop-of-length-le}
 use lib.Seq.{drop-cons}
 use borrow.Author.Tests.{le-leb, lt-leb}
 use Rattle.sheet.specs.declared.Byte.the-variants.{Digit, Space, LineEnd, Other}
-use Rattle.sheet.specs.Bytes.{kindOf}
-use Rattle.sheet.specs.Numbers.{spaced, ended, unreadable, onFirst, more, number}
+use Rattle.sheet.specs.Steps.Kinds.{kindOf}
+use Rattle.sheet.specs.Steps.Numbers.{followed, ended, unreadable, onFirst, more, number}
 
 pub more-past : (s : List ℕ) (at value : ℕ) → length s ≤ at → more value (drop at s) ≡ unreadable
 unfolding more
 more-past s at value h = rw (drop-of-length-le s h) refl
 
 module _ (s : List ℕ) (at value : ℕ) (h : at < length s) where
-  pub more-space : kindOf (getD s at 0) ≡ Space → more value (drop at s) ≡ spaced value (drop (at + 1) s)
+  pub more-space : kindOf (getD s at 0) ≡ Space → more value (drop at s) ≡ followed value (drop (at + 1) s)
   unfolding more
   more-space k = rw (add-one, drop-cons s at 0, k) refl
 

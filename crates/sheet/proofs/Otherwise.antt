@@ -10,8 +10,8 @@ use Rattle.sheet.specs.declared.Byte.{Byte}
 use Rattle.sheet.specs.declared.Byte.the-variants.{Digit, Space, LineEnd, Other}
 use Rattle.sheet.specs.declared.Number.{Number}
 use Rattle.sheet.specs.declared.Number.the-variants.{Spaced, Ended, Unreadable}
-use Rattle.sheet.specs.Numbers.{unreadable, onFirst, thenLine, thenSpace}
-use Rattle.sheet.specs.Cursors.{found}
+use Rattle.sheet.specs.Steps.Numbers.{unreadable, onFirst, thenLine, thenSpace}
+use Rattle.sheet.specs.Steps.Cursors.{takenAt}
 
 abbrev pub byteTag : Byte → ℕ
 byteTag b = denote.Enum.Declared.tagOf Rattle.sheet.proofs.Byte.the-type b
@@ -26,12 +26,12 @@ no-digit LineEnd rest o = refl
 no-digit Other rest o = refl
 
 module _ {A : Type 0} (s : List ℕ) (fault : A) (next : ℕ → List ℕ → A) where
-  pub no-line-end : (n : Number) → (numberTag n ≡ 0) ⊎ (numberTag n ≡ 2) → thenLine fault (found s n) next ≡ fault
+  pub no-line-end : (n : Number) → (numberTag n ≡ 0) ⊎ (numberTag n ≡ 2) → thenLine fault (takenAt s n) next ≡ fault
   no-line-end (Spaced v at) o = refl
   no-line-end (Ended v at) o = absurd (⊎-elim (λ e. omega arith) (λ e. omega arith) o)
   no-line-end Unreadable o = refl
 
-  pub no-space : (n : Number) → (numberTag n ≡ 1) ⊎ (numberTag n ≡ 2) → thenSpace fault (found s n) next ≡ fault
+  pub no-space : (n : Number) → (numberTag n ≡ 1) ⊎ (numberTag n ≡ 2) → thenSpace fault (takenAt s n) next ≡ fault
   no-space (Spaced v at) o = absurd (⊎-elim (λ e. omega arith) (λ e. omega arith) o)
   no-space (Ended v at) o = refl
   no-space Unreadable o = refl

@@ -13,12 +13,12 @@ use Rattle.street.specs.declared.Code.{Code}
 use Rattle.street.specs.declared.Code.the-variants as code
 use Rattle.street.specs.declared.Verdict.the-variants.{Passed}
 use Rattle.sheet.specs.declared.Number.{Number}
-use Rattle.sheet.specs.declared.Outcome.the-variants.{Numbers}
-use Rattle.sheet.specs.Bytes.{maxBytes}
-use Rattle.sheet.specs.Numbers.{ended}
-use Rattle.sheet.specs.Sections.{fault, section, cycleSection}
-use Rattle.sheet.specs.Reading.{refused, parsed, afterCycle, afterSignals, atEnd, reply}
-use Rattle.sheet.specs.Cursors.{found, answered}
+use Rattle.sheet.specs.declared.Outcome.the-variants.{Whole}
+use Rattle.sheet.specs.Form.{maxBytes}
+use Rattle.sheet.specs.Steps.Numbers.{ended}
+use Rattle.sheet.specs.Steps.Sections.{fault, section, cycleSection}
+use Rattle.sheet.specs.Steps.Parsed.{refused, parsed, afterCycle, afterSignals, atEnd, toReading}
+use Rattle.sheet.specs.Steps.Cursors.{takenAt, outcomeReading}
 use Rattle.sheet.proofs.Otherwise.{numberTag, no-line-end}
 use Rattle.sheet.proofs.Sections.{Took}
 
@@ -26,7 +26,7 @@ pub too-long : (s : List ℕ) → maxBytes < length s → parsed s ≡ refused c
 unfolding parsed
 too-long s h = rw (lt-leb (length s) maxBytes h) refl
 
-pub no-cycle : (s : List ℕ) → length s ≤ maxBytes → (n : Number) → found s n ≡ cycleSection s →
+pub no-cycle : (s : List ℕ) → length s ≤ maxBytes → (n : Number) → takenAt s n ≡ cycleSection s →
     (numberTag n ≡ 0) ⊎ (numberTag n ≡ 2) → parsed s ≡ refused code.Sheet
 unfolding parsed
 no-cycle s short n e o = rw (le-leb (length s) maxBytes short, ← e) (no-line-end s _ _ n o)
@@ -81,7 +81,7 @@ module _ {s : List ℕ} {cycle at : ℕ} (v : CycleAt s cycle at) where
       bytes-left h = from-links ∙ rw (drop-cons s last 0) refl
 
       -- with none left, the numbers of the sheet are those in the arrays
-      pub nothing-left : length s ≤ last → answered (Numbers n cycle) reds distances outbound inbound ≡ reply (parsed s)
+      pub nothing-left : length s ≤ last → outcomeReading (Whole n cycle) reds distances outbound inbound ≡ toReading (parsed s)
       nothing-left h =
           (λ i. record {
             verdict = Passed;
@@ -94,4 +94,4 @@ module _ {s : List ℕ} {cycle at : ℕ} (v : CycleAt s cycle at) where
               inbound = speeds .in-right i;
             };
           })
-          ∙ sym (ap reply (from-links ∙ ap (atEnd numbers) (drop-of-length-le s h)))
+          ∙ sym (ap toReading (from-links ∙ ap (atEnd numbers) (drop-of-length-le s h)))

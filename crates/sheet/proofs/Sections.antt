@@ -14,15 +14,15 @@ use Rattle.street.specs.Checks.{within}
 use Rattle.street.specs.declared.Code.the-variants.{Sheet, Count}
 use Rattle.sheet.specs.declared.Number.{Number}
 use Rattle.sheet.specs.declared.Stand.the-variants.{At, Stopped}
-use Rattle.sheet.specs.Numbers.{unreadable, ended, number}
-use Rattle.sheet.specs.Sections.{Lines, lines, fault, pairs, section, cycleSection}
-use Rattle.sheet.specs.Reading.{padded}
-use Rattle.sheet.specs.Cursors.{found, inArrays, columns}
+use Rattle.sheet.specs.Reading.{inArray}
+use Rattle.sheet.specs.Steps.Numbers.{unreadable, ended, number}
+use Rattle.sheet.specs.Steps.Sections.{Lines, lines, fault, pairs, section, cycleSection}
+use Rattle.sheet.specs.Steps.Cursors.{takenAt, inArrays, columns}
 use Rattle.sheet.proofs.Otherwise.{numberTag, no-line-end}
 use Rattle.sheet.proofs.Backwards.{past-line, past-test, past-pair, not-lines, FirstLine}
 
 module _ (s : List ℕ) (at : ℕ) where
-  module _ (n : Number) (e : found s n ≡ number (drop at s)) (o : (numberTag n ≡ 0) ⊎ (numberTag n ≡ 2)) where
+  module _ (n : Number) (e : takenAt s n ≡ number (drop at s)) (o : (numberTag n ≡ 0) ⊎ (numberTag n ≡ 2)) where
     pub cycle-no-count : cycleSection (drop at s) ≡ unreadable
     unfolding cycleSection
     cycle-no-count = rw (← e) (no-line-end s _ _ n o)
@@ -108,8 +108,8 @@ pub record Took (s left right : List ℕ) (l : Lines) (n at : ℕ) : Type 0 wher
   pub rights : List ℕ
   pub is : l ≡ lines lefts rights (drop at s)
   pub count : length rights ≡ n
-  pub in-left : left ≡ padded lefts
-  pub in-right : right ≡ padded rights
+  pub in-left : left ≡ inArray lefts
+  pub in-right : right ≡ inArray rights
 
 -- the code's arrays, filled from the lines that a section's count opens
 module _ (s left right : List ℕ) {l : Lines} (n : ℕ) (bytes : List ℕ) (opens : l ≡ pairs n bytes) where
@@ -133,5 +133,5 @@ module _ (s left right : List ℕ) {l : Lines} (n : ℕ) (bytes : List ℕ) (ope
   took-none e = opens ∙ by-lines (pairs n bytes) e
     where
       by-lines : (m : Lines) → columns s Stopped left right ≡ inArrays m → m ≡ fault Sheet
-      by-lines (lines xs ys rest) e = absurd (not-lines Sheet (padded xs) (padded ys) rest e)
+      by-lines (lines xs ys rest) e = absurd (not-lines Sheet (inArray xs) (inArray ys) rest e)
       by-lines (fault code) e = sym e

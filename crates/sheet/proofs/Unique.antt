@@ -1,16 +1,17 @@
 -- The contract of `read` determines its reply, and that of `fill` its reply and what it leaves in the arrays: they are parts of the reading of the same
--- bytes. Assumes nothing.
+-- bytes, and one of the form's three cases holds. Assumes nothing.
 use Prim.Native.Nat.{ℕ}
-use mathlib.Core.Path.{_≡_, sym, ap, _∙_}
+use mathlib.Core.Path.{_≡_, ap}
 use mathlib.Core.List.{List}
 use Rattle.sheet.specs.declared.Head.{Head}
 use Rattle.sheet.specs.declared.Reading.{Reading}
-use Rattle.sheet.specs.Reading.{readingOf}
+use Rattle.sheet.specs.Reading.{passing, refusing, Reads}
 use Rattle.sheet.specs.Filled.{assembled}
+use Rattle.sheet.proofs.ByForm.{same-by-form}
 
 -- two replies that the contract of `read` allows for the same bytes are equal
-pub read-unique : (bytes : List ℕ) (r r′ : Reading) → r ≡ readingOf bytes → r′ ≡ readingOf bytes → r ≡ r′
-read-unique bytes r r′ p q = p ∙ sym q
+pub read-unique : (bytes : List ℕ) (r r′ : Reading) → Reads bytes r → Reads bytes r′ → r ≡ r′
+read-unique bytes r r′ p q = same-by-form bytes passing refusing r r′ p q
 
 -- one reply, and one content of each array
 pub record Same (h h′ : Head) (a a′ b b′ c c′ d d′ : List ℕ) : Type 0 where
@@ -22,9 +23,9 @@ pub record Same (h h′ : Head) (a a′ b b′ c c′ d d′ : List ℕ) : Type 
 
 -- the same of `fill`
 pub fill-unique : (bytes : List ℕ) (h h′ : Head) (a a′ b b′ c c′ d d′ : List ℕ) →
-    assembled h a b c d ≡ readingOf bytes → assembled h′ a′ b′ c′ d′ ≡ readingOf bytes → Same h h′ a a′ b b′ c c′ d d′
+    Reads bytes (assembled h a b c d) → Reads bytes (assembled h′ a′ b′ c′ d′) → Same h h′ a a′ b b′ c c′ d d′
 fill-unique bytes h h′ a a′ b b′ c c′ d d′ p q =
-    let e : assembled h a b c d ≡ assembled h′ a′ b′ c′ d′ = p ∙ sym q in
+    let e : assembled h a b c d ≡ assembled h′ a′ b′ c′ d′ = read-unique bytes _ _ p q in
     record {
       reply = ap (λ (r : Reading). record { verdict = r .verdict; signals = r .sheet .signals; cycle = r .sheet .cycle }) e;
       reds = ap (λ (r : Reading). r .sheet .reds) e;

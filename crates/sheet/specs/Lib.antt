@@ -1,7 +1,4 @@
-pub mod Bytes
-pub mod Numbers
-pub mod Sections
-pub mod Reading
 pub mod Form
+pub mod Reading
 pub mod Filled
-pub mod Cursors
+pub mod Steps

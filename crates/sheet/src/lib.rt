@@ -5,12 +5,14 @@ ghost use Prim.Native.Nat.{_≤_};
 ghost use lib.ListN.{drop};
 ghost use Rattle.road.specs.Limits.{maxSignals};
 ghost use Rattle.road.specs.Steps.{Zeros};
-ghost use Rattle.sheet.specs.Bytes.{maxBytes, kindOf};
-ghost use Rattle.sheet.specs.Numbers.{number, more};
-ghost use Rattle.sheet.specs.Sections.{pairs, section, cycleSection};
-ghost use Rattle.sheet.specs.Reading.{readingOf};
+ghost use Rattle.sheet.specs.Form.{maxBytes};
+ghost use Rattle.sheet.specs.Reading.{Reads};
 ghost use Rattle.sheet.specs.Filled.{assembled};
-ghost use Rattle.sheet.specs.Cursors.{found, opened, Allowed, columns, inArrays, answered};
+ghost use Rattle.sheet.specs.Steps.Kinds.{kindOf};
+ghost use Rattle.sheet.specs.Steps.Numbers.{number, more};
+ghost use Rattle.sheet.specs.Steps.Sections.{pairs, section, cycleSection};
+ghost use Rattle.sheet.specs.Steps.Parsed.{readingOf};
+ghost use Rattle.sheet.specs.Steps.Cursors.{takenAt, openedAt, Allowed, columns, inArrays, outcomeReading};
 use street::Code;
 use street::Refusal;
 use street::Street;
@@ -80,7 +82,7 @@ enum Stand {
 
 // What the sections come to beside their columns: how many signals, and the cycle; or the fault that stopped reading.
 enum Outcome {
-    Numbers(usize, u32),
+    Whole(usize, u32),
     Fault(Code),
 }
 
@@ -99,7 +101,7 @@ fn kind(byte: u8) -> Byte
 // The rest of a number after its first digit. A digit after a value of 0 would make that a leading zero, and one after more
 // than 9,999,999 would be the ninth.
 fn digits(bytes: &[u8], from: usize, first: u32) -> Number
-    ensures { λ r. ⌜ found (now (bytes .entry)) r ≡ more first (drop from (now (bytes .entry))) ⌝ }
+    ensures { λ r. ⌜ takenAt (now (bytes .entry)) r ≡ more first (drop from (now (bytes .entry))) ⌝ }
 {
     let mut at = from;
     let mut value = first;
@@ -125,7 +127,7 @@ fn digits(bytes: &[u8], from: usize, first: u32) -> Number
 
 // The number at a cursor.
 fn number_at(bytes: &[u8], at: usize) -> Number
-    ensures { λ r. ⌜ found (now (bytes .entry)) r ≡ number (drop at (now (bytes .entry))) ⌝ }
+    ensures { λ r. ⌜ takenAt (now (bytes .entry)) r ≡ number (drop at (now (bytes .entry))) ⌝ }
 {
     if at >= bytes.len() {
         return Number::Unreadable;
@@ -139,7 +141,7 @@ fn number_at(bytes: &[u8], at: usize) -> Number
 
 // A section's count, judged as soon as its line is read.
 fn count_at(bytes: &[u8], at: usize, least: usize, most: usize) -> Count
-    ensures { λ r. ⌜ (opened (now (bytes .entry)) r ≡ section least most (drop at (now (bytes .entry)))) × Allowed least most r ⌝ }
+    ensures { λ r. ⌜ (openedAt (now (bytes .entry)) r ≡ section least most (drop at (now (bytes .entry)))) × Allowed least most r ⌝ }
 {
     let Number::Ended(count, next) = number_at(bytes, at) else {
         return Count::Wrong(Code::Sheet);
@@ -182,7 +184,7 @@ fn columns_at(
 
 // The first section: its count, which is 1, and the cycle.
 fn cycle_at(bytes: &[u8], at: usize) -> Number
-    ensures { λ r. ⌜ found (now (bytes .entry)) r ≡ cycleSection (drop at (now (bytes .entry))) ⌝ }
+    ensures { λ r. ⌜ takenAt (now (bytes .entry)) r ≡ cycleSection (drop at (now (bytes .entry))) ⌝ }
 {
     let Number::Ended(count, next) = number_at(bytes, at) else {
         return Number::Unreadable;
@@ -203,7 +205,7 @@ fn parse(
     inbound: &mut [u32; Street::MAX_SIGNALS],
 ) -> Outcome
     requires { ⌜ Zeros (now reds) × Zeros (now distances) × Zeros (now outbound) × Zeros (now inbound) ⌝ }
-    ensures { λ r. ⌜ answered r (now (reds .exit)) (now (distances .exit)) (now (outbound .exit)) (now (inbound .exit)) ≡ readingOf (now (bytes .entry)) ⌝ }
+    ensures { λ r. ⌜ outcomeReading r (now (reds .exit)) (now (distances .exit)) (now (outbound .exit)) (now (inbound .exit)) ≡ readingOf (now (bytes .entry)) ⌝ }
 {
     if bytes.len() > Sheet::MAX_BYTES {
         return Outcome::Fault(Code::Sheet);
@@ -227,7 +229,7 @@ fn parse(
                     if last < bytes.len() {
                         return Outcome::Fault(Code::Sheet);
                     }
-                    Outcome::Numbers(signals, cycle)
+                    Outcome::Whole(signals, cycle)
                 }
             }
         }
@@ -244,10 +246,10 @@ pub fn fill(
     inbound: &mut [u32; Street::MAX_SIGNALS],
 ) -> Head
     requires { ⌜ Zeros (now reds) × Zeros (now distances) × Zeros (now outbound) × Zeros (now inbound) ⌝ }
-    ensures { λ r. ⌜ assembled r (now (reds .exit)) (now (distances .exit)) (now (outbound .exit)) (now (inbound .exit)) ≡ readingOf (now (bytes .entry)) ⌝ }
+    ensures { λ r. ⌜ Reads (now (bytes .entry)) (assembled r (now (reds .exit)) (now (distances .exit)) (now (outbound .exit)) (now (inbound .exit))) ⌝ }
 {
     match parse(bytes, reds, distances, outbound, inbound) {
-        Outcome::Numbers(signals, cycle) => Head {
+        Outcome::Whole(signals, cycle) => Head {
             verdict: Verdict::Passed,
             signals,
             cycle,
@@ -268,7 +270,7 @@ pub fn fill(
 
 // The same, with the arrays in the reply.
 pub fn read(bytes: &[u8]) -> Reading
-    ensures { λ r. ⌜ r ≡ readingOf (now (bytes .entry)) ⌝ }
+    ensures { λ r. ⌜ Reads (now (bytes .entry)) r ⌝ }
 {
     let mut reds = [0u32; Street::MAX_SIGNALS];
     let mut distances = [0u32; Street::MAX_SIGNALS];

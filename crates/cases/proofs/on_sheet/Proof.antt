@@ -5,12 +5,12 @@ use Rattle.cases.proofs.on_sheet.Statement.{statement}
 use Rattle.cases.proofs.on_sheet.Tie as tie
 
 planned-requires : tie.Need-planned-requires
-planned-requires c κs = reading-held _ _ (c .before .before .before .before .before .before .before .read .ensures) (c .before .before .before .before .before .enum-told .given .1)
+planned-requires c κs = reading-held (c .before .before .before .before .before .before .before .read .ensures) (c .before .before .before .before .before .enum-told .given .1)
 
 measured-requires : tie.Need-measured-requires
 measured-requires c κs =
     let start = c .before .before .before .before .before .before .before in
-    (reading-held _ _ (c .before .before .before .before .before .read .ensures) (c .before .before .before .enum-told .given .1), start .pre .0, start .pre .1)
+    (reading-held (c .before .before .before .before .before .read .ensures) (c .before .before .before .enum-told .given .1), start .pre .0, start .pre .1)
 
 pub on-sheet-spec : {M : Type 1} → statement M
 on-sheet-spec =

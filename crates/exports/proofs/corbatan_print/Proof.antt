@@ -1,6 +1,5 @@
 -- `exports::corbatan_print` meets its contract: the struct holds what `printed::equal_text` printed over a list that no street overfills. Assumes nothing.
-use mathlib.Core.Path.{ap}
-use Rattle.exports.specs.Flat.{flatText}
+use mathlib.Core.Path.{refl}
 use borrow.Author.Needs.{needs}
 use Rattle.exports.proofs.corbatan_print.Statement.{statement}
 use Rattle.exports.proofs.corbatan_print.Tie as tie
@@ -9,7 +8,7 @@ equal-text-requires : tie.Need-equal-text-requires
 equal-text-requires c κs = search needs
 
 returns : tie.Need-returns
-returns c = ap flatText (c .before .equal-text .ensures .reply)
+returns c = record { printed = _; prints = c .before .equal-text .ensures; reply = refl }
 
 pub corbatan-print-spec : {M : Type 1} → statement M
 corbatan-print-spec = tie.close (tie.spec equal-text-requires returns)

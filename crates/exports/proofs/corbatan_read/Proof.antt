@@ -1,5 +1,6 @@
 -- `exports::corbatan_read` meets its contract: the head and the columns are those that `sheet::fill` read, and the verdict decides the code and place.
 -- Assumes nothing.
+use Rattle.sheet.specs.Filled.{assembled}
 use Rattle.exports.proofs.Laws.{reading-flat}
 use borrow.Author.Needs.{needs}
 use Rattle.exports.proofs.corbatan_read.Statement.{statement}
@@ -16,7 +17,11 @@ returns c =
     let f = c .before .fill in
     let l = f .last .1 in
     let n = c .numbered in
-    reading-flat (f .result) (l .0) (l .1 .0) (l .1 .1 .0) (l .1 .1 .1 .0) _ (n .result .code) (n .result .place) (f .ensures) (n .ensures .0) (n .ensures .1)
+    record {
+      reading = assembled (f .result) (l .0) (l .1 .0) (l .1 .1 .0) (l .1 .1 .1 .0);
+      reads = f .ensures;
+      reply = reading-flat (f .result) (l .0) (l .1 .0) (l .1 .1 .0) (l .1 .1 .1 .0) (n .result .code) (n .result .place) (n .ensures .0) (n .ensures .1);
+    }
 
 pub corbatan-read-spec : {M : Type 1} → statement M
 corbatan-read-spec = tie.close (tie.spec fill-requires numbered-requires returns)

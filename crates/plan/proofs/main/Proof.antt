@@ -1,7 +1,7 @@
 -- `main` meets its contract: the printed text lies within its buffer, and the bytes that go out are the text that answers the bytes beside them. Assumes nothing beyond what the
 -- libraries assume of reading and writing.
 use borrow.Author.Needs.{needs}
-use Rattle.printed.proofs.Ways.{text-within, text-count, text-is}
+use Rattle.printed.proofs.Ways.{text-within, text-count, sent}
 use Rattle.plan.proofs.main.Statement.{statement}
 use Rattle.plan.proofs.main.Tie as tie
 
@@ -27,13 +27,13 @@ slice-aggregate-send : tie.Need-slice-aggregate-send
 slice-aggregate-send c = search needs
 
 array-share-prefix-bytes : tie.Need-array-share-prefix-bytes
-array-share-prefix-bytes c = text-within (c .before .before .equal-text .ensures)
+array-share-prefix-bytes c = text-within (c .before .before .equal-text .ensures .prints)
 
 slice-aggregate-send-2 : tie.Need-slice-aggregate-send-2
-slice-aggregate-send-2 c = text-count (c .before .before .before .equal-text .ensures)
+slice-aggregate-send-2 c = text-count (c .before .before .before .equal-text .ensures .prints)
 
 send-requires : tie.Need-send-requires
-send-requires c κs = text-is (c .before .before .before .equal-text .ensures)
+send-requires c κs = sent (c .before .before .before .equal-text .ensures)
 
 returns : tie.Need-returns
 returns c = search needs

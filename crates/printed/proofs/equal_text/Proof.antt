@@ -1,17 +1,11 @@
 -- `printed::equal_text` meets its contract: a refused reading's line, or the text of the lists that were read. Assumes nothing.
 use Prim.Native.Nat.{ℕ}
-use mathlib.Core.Path.{ap, _∙_}
-use mathlib.Core.List.{List}
 use borrow.Author.Needs.{needs}
-use Rattle.printed.specs.Text.{printedOf}
-use Rattle.printed.proofs.Ways.{reading-held, accepted-text, refused-text}
+use Rattle.printed.proofs.Ways.{reading-held, passed-answers, refused-answers}
 use Rattle.printed.proofs.equal_text.Statement.{statement}
 use Rattle.printed.proofs.equal_text.Tie as tie
 
--- once the sheet is read: its bytes and the room
-abbrev sheet : tie.After-read → List ℕ
-sheet c = c .before .before .args .bytes .now
-
+-- once the sheet is read: the room
 abbrev room : tie.After-read → ℕ
 room c = c .before .before .args .room
 
@@ -33,21 +27,21 @@ enum-told c = search needs
 planned-requires : tie.Need-planned-requires
 planned-requires c κs =
     let r = c .before .before .before in
-    reading-held (sheet r) (r .read .result) (r .read .ensures) (c .before .enum-told .given .1)
+    reading-held (r .read .ensures) (c .before .enum-told .given .1)
 
 returns : tie.Need-returns
 returns c =
     let v = c .before .before .before in
     let r = v .before .before in
-    let line = refused-text (sheet r) (room r) (r .read .result) _ (r .read .ensures) (v .verdict .given .1) in
-    record { reply = c .text .ensures ∙ ap printedOf line }
+    let answers = refused-answers (room r) (r .read .ensures) (v .verdict .given .1) in
+    record { answer = _; answers = answers; prints = record { reply = c .text .ensures } }
 
 returns-2 : tie.Need-returns-2
 returns-2 c =
     let told = c .before .before in
     let r = told .before .before in
-    let text = accepted-text (sheet r) (room r) (r .read .result) (r .read .ensures) (told .enum-told .given .1) in
-    record { reply = c .planned .ensures ∙ ap printedOf text }
+    let answers = passed-answers (room r) (r .read .ensures) (told .enum-told .given .1) in
+    record { answer = _; answers = answers; prints = record { reply = c .planned .ensures } }
 
 pub equal-text-spec : {M : Type 1} → statement M
 equal-text-spec =

@@ -10,7 +10,7 @@ use borrow.Author.Needs.{needs}
 use Rattle.road.specs.Limits.{maxSignals}
 use Rattle.sheet.specs.declared.Sheet.{Sheet}
 use Rattle.printed.specs.Text.{textOf, printedOf}
-use Rattle.printed.specs.Way.{listsOf, Held}
+use Rattle.printed.specs.Steps.{listsOf, Held}
 use Rattle.printed.proofs.Ways.{plan-text, lent-le, lent-few}
 use Rattle.printed.proofs.planned.Statement.{statement}
 use Rattle.printed.proofs.planned.Tie as tie

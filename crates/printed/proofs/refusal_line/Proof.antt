@@ -10,7 +10,7 @@ use Rattle.street.specs.Codes.{codeNumber}
 use Rattle.decimal.specs.Decimal.{decimal}
 use Rattle.decimal.specs.Writing.{Writes}
 use Rattle.decimal.proofs.Writing.{writes-twice, writes-as}
-use Rattle.printed.specs.Text.{refused, refusalLine}
+use Rattle.printed.specs.Text.{refusedWord, refusalLine}
 use Rattle.printed.proofs.Lines.{three-items, three-sizes}
 use Rattle.printed.proofs.refusal_line.Statement.{statement}
 use Rattle.printed.proofs.refusal_line.Tie as tie
@@ -22,16 +22,16 @@ code-item c = decimal (c .code-number .result) ++ 32 ∷ []
 abbrev place-item : tie.After-code-number → List ℕ
 place-item c = decimal (c .before .before .args .refusal .place) ++ 10 ∷ []
 
-items : (c : tie.After-code-number) → (refused ++ 32 ∷ []) ++ code-item c ++ place-item c ≡ refusalLine (c .before .before .args .refusal)
+items : (c : tie.After-code-number) → (refusedWord ++ 32 ∷ []) ++ code-item c ++ place-item c ≡ refusalLine (c .before .before .args .refusal)
 items c =
     let refusal = c .before .before .args .refusal in
-    ap (λ (n : ℕ). (refused ++ 32 ∷ []) ++ (decimal n ++ 32 ∷ []) ++ place-item c) (c .code-number .ensures)
-    ∙ three-items refused (decimal (codeNumber (refusal .code))) (decimal (refusal .place))
+    ap (λ (n : ℕ). (refusedWord ++ 32 ∷ []) ++ (decimal n ++ 32 ∷ []) ++ place-item c) (c .code-number .ensures)
+    ∙ three-items refusedWord (decimal (codeNumber (refusal .code))) (decimal (refusal .place))
 
 -- there is room for them
 room : (c : tie.After-code-number) → 8 + length (code-item c) + length (place-item c) ≤ length (c .before .before .args .bytes .now)
 room c =
-    omega (arith, ap length (items c), three-sizes (refused ++ 32 ∷ []) (code-item c) (place-item c), c .before .before .pre)
+    omega (arith, ap length (items c), three-sizes (refusedWord ++ 32 ∷ []) (code-item c) (place-item c), c .before .before .pre)
 
 abbrev coded : tie.After-copy → tie.After-code-number
 coded c = c .before .before .before
@@ -42,7 +42,7 @@ at-word c = c .before .before .before .before
 -- the word, which is written from the start
 word-written :
     (c : tie.After-copy)
-    → Writes 0 (refused ++ 32 ∷ []) (coded c .before .before .args .bytes .now) (c .copy .last .1 .0) (c .copy .result)
+    → Writes 0 (refusedWord ++ 32 ∷ []) (coded c .before .before .args .bytes .now) (c .copy .last .1 .0) (c .copy .result)
 word-written c = record { after = c .copy .ensures .1; next = c .copy .ensures .0 }
 
 code-number-requires : tie.Need-code-number-requires

@@ -5,8 +5,8 @@ use Prim.Native.Nat.{_-_}
 use mathlib.Core.Path.{_≡_, sym, ap, _∙_}
 use lib.ListN.{drop}
 use borrow.Author.Needs.{needs}
-use Rattle.sheet.specs.Numbers.{spaced, number}
-use Rattle.sheet.specs.Cursors.{found, inArrays}
+use Rattle.sheet.specs.Steps.Numbers.{followed, number}
+use Rattle.sheet.specs.Steps.Cursors.{takenAt, inArrays}
 use Rattle.sheet.proofs.Lines.{SoFar, so-far-none, so-far-all, Turn, no-first, no-second, one-line}
 use Rattle.sheet.proofs.columns_at.Statement.{statement}
 use Rattle.sheet.proofs.columns_at.Tie as tie
@@ -36,10 +36,10 @@ turn c = record { so-far = c .before .loop .inv; left-over = c .loop-test .taken
 -- the first number of the line
 first-number : (c : tie.After-x Inv-loop μ-loop) →
     number (drop (c .before .before .before .before .loop .at) (c .before .before .before .before .before .before .args .bytes .now))
-    ≡ spaced (c .x .given .0 .0) (drop (c .x .given .0 .1 .0) (c .before .before .before .before .before .before .args .bytes .now))
+    ≡ followed (c .x .given .0 .0) (drop (c .x .given .0 .1 .0) (c .before .before .before .before .before .before .args .bytes .now))
 first-number c =
     sym (c .before .before .number-at .ensures)
-    ∙ ap (found (c .before .before .before .before .before .before .args .bytes .now)) (c .x .given .1)
+    ∙ ap (takenAt (c .before .before .before .before .before .before .args .bytes .now)) (c .x .given .1)
 
 number-at-requires : tie.Need-number-at-requires Inv-loop μ-loop
 number-at-requires c κs = search needs
@@ -92,7 +92,7 @@ loop-again c =
     let f = m .before .before in
     let n = f .before .before in
     one-line (turn (n .before)) (f .x .given .0 .1 .0) (first-number f) (g .y .given .0 .1 .0)
-    (sym (m .number-at2 .ensures) ∙ ap (found (n .before .before .before .before .args .bytes .now)) (g .y .given .1))
+    (sym (m .number-at2 .ensures) ∙ ap (takenAt (n .before .before .before .before .args .bytes .now)) (g .y .given .1))
 
 returns-3 : tie.Need-returns-3 Inv-loop μ-loop
 returns-3 c = so-far-all (c .before .loop .inv) (c .before .before .before .pre .0) (c .loop-test .left)

@@ -1,7 +1,7 @@
 -- The reader's `count_at` meets its contract: the count's line and the two tests on it are the definition's, which goes on with the lines. Assumes nothing.
 use mathlib.Core.Path.{sym, ap, _∙_}
 use borrow.Author.Needs.{needs}
-use Rattle.sheet.specs.Cursors.{found}
+use Rattle.sheet.specs.Steps.Cursors.{takenAt}
 use Rattle.sheet.proofs.Sections.{section-no-count, section-few, section-many, section-lines}
 use Rattle.sheet.proofs.count_at.Statement.{statement}
 use Rattle.sheet.proofs.count_at.Tie as tie
@@ -28,7 +28,7 @@ returns-2 c =
     let a = n .before .before .args in (
       sym
           (section-few (a .bytes .now) (a .at) _ (f .count .given .0 .1 .0)
-          (sym (n .number-at .ensures) ∙ ap (found (a .bytes .now)) (f .count .given .1))
+          (sym (n .number-at .ensures) ∙ ap (takenAt (a .bytes .now)) (f .count .given .1))
           (a .least) (a .most) (c .if1 .taken)),
       tt,
     )
@@ -40,7 +40,7 @@ returns-3 c =
     let a = n .before .before .args in (
       sym
           (section-many (a .bytes .now) (a .at) _ (f .count .given .0 .1 .0)
-          (sym (n .number-at .ensures) ∙ ap (found (a .bytes .now)) (f .count .given .1))
+          (sym (n .number-at .ensures) ∙ ap (takenAt (a .bytes .now)) (f .count .given .1))
           (a .least) (a .most) (c .before .if1 .left) (c .if2 .taken)),
       tt,
     )
@@ -52,7 +52,7 @@ returns-4 c =
     let a = n .before .before .args in (
       sym
           (section-lines (a .bytes .now) (a .at) _ (f .count .given .0 .1 .0)
-          (sym (n .number-at .ensures) ∙ ap (found (a .bytes .now)) (f .count .given .1))
+          (sym (n .number-at .ensures) ∙ ap (takenAt (a .bytes .now)) (f .count .given .1))
           (a .least) (a .most) (c .before .if1 .left) (c .if2 .left)),
       (c .before .if1 .left, c .if2 .left),
     )

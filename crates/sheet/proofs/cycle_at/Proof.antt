@@ -1,7 +1,7 @@
 -- The reader's `cycle_at` meets its contract: the count's line and the test on it are the definition's, and the second number is the cycle. Assumes nothing.
 use mathlib.Core.Path.{sym, ap, _∙_}
 use borrow.Author.Needs.{needs}
-use Rattle.sheet.specs.Cursors.{found}
+use Rattle.sheet.specs.Steps.Cursors.{takenAt}
 use Rattle.sheet.proofs.Sections.{cycle-no-count, cycle-other-count, cycle-number}
 use Rattle.sheet.proofs.cycle_at.Statement.{statement}
 use Rattle.sheet.proofs.cycle_at.Tie as tie
@@ -25,7 +25,7 @@ returns-2 c =
     let a = n .before .before .args in
     sym
     (cycle-other-count (a .bytes .now) (a .at) _ (f .count .given .0 .1 .0)
-    (sym (n .number-at .ensures) ∙ ap (found (a .bytes .now)) (f .count .given .1))
+    (sym (n .number-at .ensures) ∙ ap (takenAt (a .bytes .now)) (f .count .given .1))
     (c .if1 .taken))
 
 number-at-requires-2 : tie.Need-number-at-requires-2
@@ -39,7 +39,7 @@ returns-3 c =
     c .number-at2 .ensures
     ∙ sym
     (cycle-number (a .bytes .now) (a .at) _ (f .count .given .0 .1 .0)
-    (sym (n .number-at .ensures) ∙ ap (found (a .bytes .now)) (f .count .given .1))
+    (sym (n .number-at .ensures) ∙ ap (takenAt (a .bytes .now)) (f .count .given .1))
     (c .before .if1 .left))
 
 pub cycle-at-spec : {M : Type 1} → statement M

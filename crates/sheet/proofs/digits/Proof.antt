@@ -5,8 +5,8 @@ use mathlib.Core.Path.{_≡_, refl, sym, _∙_}
 use native.Mathlib.Omega.{arith}
 use lib.ListN.{length, drop, getD}
 use borrow.Author.Needs.{needs}
-use Rattle.sheet.specs.Numbers.{more}
-use Rattle.sheet.specs.Bytes.{kindOf}
+use Rattle.sheet.specs.Steps.Kinds.{kindOf}
+use Rattle.sheet.specs.Steps.Numbers.{more}
 use Rattle.sheet.specs.declared.Byte.the-variants.{Digit}
 use Rattle.sheet.proofs.ByteKinds.{digit-is}
 use Rattle.sheet.proofs.Numbers.{more-past, more-space, more-line-end, more-other, more-digit, more-after-zero, more-after-eight}

@@ -3,7 +3,8 @@
 use mathlib.Core.Path.{sym, ap, _∙_}
 use borrow.Author.Needs.{needs}
 use Rattle.sheet.specs.declared.Outcome.{Outcome}
-use Rattle.sheet.specs.Cursors.{answered}
+use Rattle.sheet.specs.Steps.Cursors.{outcomeReading}
+use Rattle.sheet.proofs.ByForm.{reads}
 use Rattle.sheet.proofs.fill.Statement.{statement}
 use Rattle.sheet.proofs.fill.Tie as tie
 
@@ -20,14 +21,14 @@ returns : tie.Need-returns
 returns c =
     let p = c .before .before .before .parse in
     let l = p .last .1 in
-    sym (ap (λ (o : Outcome). answered o (l .0) (l .1 .0) (l .1 .1 .0) (l .1 .1 .1 .0)) (c .before .signals .given .1)) ∙ p .ensures
+    reads (sym (ap (λ (o : Outcome). outcomeReading o (l .0) (l .1 .0) (l .1 .1 .0) (l .1 .1 .1 .0)) (c .before .signals .given .1)) ∙ p .ensures)
 
 returns-2 : tie.Need-returns-2
 returns-2 c =
     let d = c .before .before .before .before .before in
     let p = d .before .before .parse in
     let l = p .last .1 in
-    sym (ap (λ (o : Outcome). answered o (l .0) (l .1 .0) (l .1 .1 .0) (l .1 .1 .1 .0)) (d .code .given .1)) ∙ p .ensures
+    reads (sym (ap (λ (o : Outcome). outcomeReading o (l .0) (l .1 .0) (l .1 .1 .0) (l .1 .1 .1 .0)) (d .code .given .1)) ∙ p .ensures)
 
 pub fill-spec : {M : Type 1} → statement M
 fill-spec =

@@ -5,7 +5,7 @@ use mathlib.Core.Path.{sym, ap, _∙_}
 use lib.ListN.{drop}
 use borrow.Author.Needs.{needs}
 use Rattle.sheet.specs.declared.Byte.{Byte}
-use Rattle.sheet.specs.Numbers.{onFirst}
+use Rattle.sheet.specs.Steps.Numbers.{onFirst}
 use Rattle.sheet.proofs.Numbers.{number-past, number-there}
 use Rattle.sheet.proofs.Otherwise.{no-digit}
 use Rattle.sheet.proofs.number_at.Statement.{statement}

@@ -8,9 +8,9 @@ use lib.ListN.{drop}
 use borrow.Author.Needs.{needs}
 use Rattle.road.specs.Limits.{minSignals, maxSignals}
 use Rattle.sheet.specs.declared.Stand.{Stand}
-use Rattle.sheet.specs.Sections.{pairs, section}
-use Rattle.sheet.specs.Reading.{reply}
-use Rattle.sheet.specs.Cursors.{found, opened, Allowed, columns}
+use Rattle.sheet.specs.Steps.Sections.{pairs, section}
+use Rattle.sheet.specs.Steps.Parsed.{toReading}
+use Rattle.sheet.specs.Steps.Cursors.{takenAt, openedAt, Allowed, columns}
 use Rattle.sheet.proofs.Sections.{Took, took, took-none}
 use Rattle.sheet.proofs.Replies.{too-long, no-cycle, CycleAt, signals-fault, links-fault, bytes-left, nothing-left}
 use Rattle.sheet.proofs.parse.Statement.{statement}
@@ -36,13 +36,13 @@ sheet c = c .before .before .before .before .before .args .bytes .now
 cycle-at : (c : tie.After-cycle) → CycleAt (sheet c) (c .cycle .given .0 .0) (c .cycle .given .0 .1 .0)
 cycle-at c =
     let n = c .before .before in
-    record { short = n .before .if1 .left; first = sym (n .cycle-at .ensures) ∙ ap (found (sheet c)) (c .cycle .given .1) }
+    record { short = n .before .if1 .left; first = sym (n .cycle-at .ensures) ∙ ap (takenAt (sheet c)) (c .cycle .given .1) }
 
 -- after the signals' count
 signals-open : (c : tie.After-signals) →
     section minSignals maxSignals (drop (the-cycle c .cycle .given .0 .1 .0) (sheet (the-cycle c)))
     ≡ pairs (c .signals .given .0 .0) (drop (c .signals .given .0 .1 .0) (sheet (the-cycle c)))
-signals-open c = sym (c .before .before .count-at .ensures .0) ∙ ap (opened (sheet (the-cycle c))) (c .signals .given .1)
+signals-open c = sym (c .before .before .count-at .ensures .0) ∙ ap (openedAt (sheet (the-cycle c))) (c .signals .given .1)
 
 signals-allowed : (c : tie.After-signals) → (minSignals ≤ c .signals .given .0 .0) × (c .signals .given .0 .0 ≤ maxSignals)
 signals-allowed c = subst (Allowed minSignals maxSignals) (c .signals .given .1) (c .before .before .count-at .ensures .1)
@@ -73,7 +73,7 @@ links-open : (c : tie.After-links) →
     ≡ pairs (c .links .given .0 .0) (drop (c .links .given .0 .1 .0) (sheet (the-cycle (the-signals (the-rows c)))))
 links-open c =
     sym (c .before .before .count-at2 .ensures .0)
-    ∙ ap (opened (sheet (the-cycle (the-signals (the-rows c))))) (c .links .given .1)
+    ∙ ap (openedAt (sheet (the-cycle (the-signals (the-rows c))))) (c .links .given .1)
 
 -- after the links' lines
 speeds : (c : tie.After-last) →
@@ -96,7 +96,7 @@ speeds c =
     (sym (ap (λ (t : Stand). columns s t (l .0) (l .1 .0)) (c .last .given .1)) ∙ d .ensures)
 
 returns : tie.Need-returns
-returns c = sym (ap reply (too-long (c .before .before .args .bytes .now) (c .if1 .taken)))
+returns c = sym (ap toReading (too-long (c .before .before .args .bytes .now) (c .if1 .taken)))
 
 cycle-at-requires : tie.Need-cycle-at-requires
 cycle-at-requires c κs = search needs
@@ -107,7 +107,7 @@ enum-known-cycle c = search needs
 returns-2 : tie.Need-returns-2
 returns-2 c =
     let n = c .before in
-    sym (ap reply (no-cycle (n .before .before .before .args .bytes .now) (n .before .if1 .left) (n .cycle-at .result) (n .cycle-at .ensures) (c .match .keys2)))
+    sym (ap toReading (no-cycle (n .before .before .before .args .bytes .now) (n .before .if1 .left) (n .cycle-at .result) (n .cycle-at .ensures) (c .match .keys2)))
 
 count-at-requires : tie.Need-count-at-requires
 count-at-requires c κs = search needs
@@ -134,7 +134,7 @@ returns-3 c =
     let s = sheet (the-cycle g) in
     let l = d .columns-at .last .1 .1 .1 in
     sym
-    (ap reply
+    (ap toReading
     (signals-fault (cycle-at (the-cycle g))
     (took-none s (l .0) (l .1 .0) (g .signals .given .0 .0) (drop (g .signals .given .0 .1 .0) s) (signals-open g)
     (sym (ap (λ (t : Stand). columns s t (l .0) (l .1 .0)) (c .enum-told .given .1)) ∙ d .columns-at .ensures))))
@@ -173,7 +173,7 @@ returns-4 c =
     let s = sheet (the-cycle (the-signals (the-rows k))) in
     let l = d .columns-at2 .last .1 .1 .1 in
     sym
-    (ap reply
+    (ap toReading
     (links-fault (cycle-at (the-cycle (the-signals (the-rows k)))) (rows (the-rows k))
     (took-none s (l .0) (l .1 .0) (k .links .given .0 .0) (drop (k .links .given .0 .1 .0) s) (links-open k)
     (sym (ap (λ (t : Stand). columns s t (l .0) (l .1 .0)) (c .enum-told2 .given .1)) ∙ d .columns-at2 .ensures))))
@@ -182,14 +182,14 @@ returns-5 : tie.Need-returns-5
 returns-5 c =
     let d = c .before .before in
     let r = the-rows (the-links d) in
-    sym (ap reply (bytes-left (cycle-at (the-cycle (the-signals r))) (rows r) (speeds d) (c .if2 .taken)))
+    sym (ap toReading (bytes-left (cycle-at (the-cycle (the-signals r))) (rows r) (speeds d) (c .if2 .taken)))
 
 returns-6 : tie.Need-returns-6
 returns-6 c =
     let d = c .before in
     let e = d .before .before in
     let f = e .before .before in
-    sym (ap reply (signals-fault (cycle-at f) (sym (e .count-at .ensures .0) ∙ ap (opened (sheet f)) (d .code .given .1))))
+    sym (ap toReading (signals-fault (cycle-at f) (sym (e .count-at .ensures .0) ∙ ap (openedAt (sheet f)) (d .code .given .1))))
 
 returns-7 : tie.Need-returns-7
 returns-7 c =
@@ -197,7 +197,7 @@ returns-7 c =
     let e = d .before .before in
     let r = e .before .before in
     let f = the-cycle (the-signals r) in
-    sym (ap reply (links-fault (cycle-at f) (rows r) (sym (e .count-at2 .ensures .0) ∙ ap (opened (sheet f)) (d .code2 .given .1))))
+    sym (ap toReading (links-fault (cycle-at f) (rows r) (sym (e .count-at2 .ensures .0) ∙ ap (openedAt (sheet f)) (d .code2 .given .1))))
 
 returns-8 : tie.Need-returns-8
 returns-8 c =

@@ -5,18 +5,18 @@ use mathlib.Core.List.{List, [], _∷_}
 use Rattle.street.specs.Checks.{within}
 use Rattle.sheet.specs.declared.Byte.{Byte}
 use Rattle.sheet.specs.declared.Byte.the-variants.{Digit, Space, LineEnd, Other}
-use Rattle.sheet.specs.Bytes.{kindOf}
+use Rattle.sheet.specs.Steps.Kinds.{kindOf}
 
 -- what reading a number comes to: its value and the bytes after the space or the line end that ended it, or that no number can be read there
 pub data Taken : Type 0 where
-  spaced : ℕ → List ℕ → Taken
+  followed : ℕ → List ℕ → Taken
   ended : ℕ → List ℕ → Taken
   unreadable : Taken
 
 -- what a byte does to a number that is being read: a digit goes on with it, a space or a line end ends it, and any other byte spoils it
 abbrev pub onByte : Byte → (ℕ → Taken) → ℕ → List ℕ → Taken
 onByte (Digit d) next value rest = next d
-onByte Space next value rest = spaced value rest
+onByte Space next value rest = followed value rest
 onByte LineEnd next value rest = ended value rest
 onByte Other next value rest = unreadable
 
@@ -40,12 +40,12 @@ number (b ∷ rest) = onFirst (kindOf b) rest
 
 -- a number must end its line, and reading goes on from the next one
 abbrev pub thenLine : {A : Type 0} → A → Taken → (ℕ → List ℕ → A) → A
-thenLine fault (spaced value rest) next = fault
+thenLine fault (followed value rest) next = fault
 thenLine fault (ended value rest) next = next value rest
 thenLine fault unreadable next = fault
 
 -- a number must end with a space, and reading goes on in its line
 abbrev pub thenSpace : {A : Type 0} → A → Taken → (ℕ → List ℕ → A) → A
-thenSpace fault (spaced value rest) next = next value rest
+thenSpace fault (followed value rest) next = next value rest
 thenSpace fault (ended value rest) next = fault
 thenSpace fault unreadable next = fault

@@ -11,23 +11,23 @@ use Rattle.sheet.specs.declared.Count.the-variants.{Of, Wrong}
 use Rattle.sheet.specs.declared.Stand.{Stand}
 use Rattle.sheet.specs.declared.Stand.the-variants.{At, Stopped}
 use Rattle.sheet.specs.declared.Outcome.{Outcome}
-use Rattle.sheet.specs.declared.Outcome.the-variants.{Numbers, Fault}
+use Rattle.sheet.specs.declared.Outcome.the-variants.{Whole, Fault}
 use Rattle.sheet.specs.declared.Reading.{Reading}
-use Rattle.sheet.specs.Numbers.{Taken, spaced, ended, unreadable}
-use Rattle.sheet.specs.Sections.{Lines, lines, fault, pairs}
-use Rattle.sheet.specs.Reading.{padded, refusing}
+use Rattle.sheet.specs.Reading.{inArray, refusing}
 use Rattle.sheet.specs.Filled.{assembled}
+use Rattle.sheet.specs.Steps.Numbers.{Taken, followed, ended, unreadable}
+use Rattle.sheet.specs.Steps.Sections.{Lines, lines, fault, pairs}
 
 -- a number and the bytes from its cursor on
-abbrev pub found : List ℕ → Number → Taken
-found bytes (Spaced value at) = spaced value (drop at bytes)
-found bytes (Ended value at) = ended value (drop at bytes)
-found bytes Unreadable = unreadable
+abbrev pub takenAt : List ℕ → Number → Taken
+takenAt bytes (Spaced value at) = followed value (drop at bytes)
+takenAt bytes (Ended value at) = ended value (drop at bytes)
+takenAt bytes Unreadable = unreadable
 
 -- the section that a count opens: as many lines from its cursor on
-abbrev pub opened : List ℕ → Count → Lines
-opened bytes (Of n at) = pairs n (drop at bytes)
-opened bytes (Wrong code) = fault code
+abbrev pub openedAt : List ℕ → Count → Lines
+openedAt bytes (Of n at) = pairs n (drop at bytes)
+openedAt bytes (Wrong code) = fault code
 
 -- a count that is handed on is one that passed
 abbrev pub Allowed : ℕ → ℕ → Count → Type 0
@@ -41,11 +41,11 @@ columns bytes Stopped left right = fault Sheet
 
 -- some lines as arrays hold them: the two columns filled up with 0
 abbrev pub inArrays : Lines → Lines
-inArrays (lines xs ys rest) = lines (padded xs) (padded ys) rest
+inArrays (lines xs ys rest) = lines (inArray xs) (inArray ys) rest
 inArrays (fault code) = fault code
 
 -- the reading of what the sections came to; of the arrays that a fault leaves nothing is said
-abbrev pub answered : Outcome → List ℕ → List ℕ → List ℕ → List ℕ → Reading
-answered (Numbers n cycle) reds distances outbound inbound =
+abbrev pub outcomeReading : Outcome → List ℕ → List ℕ → List ℕ → List ℕ → Reading
+outcomeReading (Whole n cycle) reds distances outbound inbound =
     assembled (record { verdict = Passed; signals = n; cycle = cycle }) reds distances outbound inbound
-answered (Fault code) reds distances outbound inbound = refusing code
+outcomeReading (Fault code) reds distances outbound inbound = refusing code

@@ -6,7 +6,7 @@ use lib.Dec.{eqb}
 use Rattle.street.specs.Checks.{within}
 use Rattle.street.specs.declared.Code.{Code}
 use Rattle.street.specs.declared.Code.the-variants.{Sheet, Count}
-use Rattle.sheet.specs.Numbers.{Taken, unreadable, number, thenLine, thenSpace}
+use Rattle.sheet.specs.Steps.Numbers.{Taken, unreadable, number, thenLine, thenSpace}
 
 -- what reading some lines comes to: their two columns and the bytes after them, or the code of the fault that stopped it
 pub data Lines : Type 0 where
