@@ -61,7 +61,7 @@ pub struct CorbatanText {
 }
 
 // The code and place of a verdict, both 0 where nothing was refused.
-struct Numbers {
+struct Mark {
     code: u32,
     place: u32,
 }
@@ -126,14 +126,14 @@ fn measure(answer: Measurement) -> CorbatanMeasure
 }
 
 // A verdict in numbers.
-fn numbered(verdict: Verdict) -> Numbers
+fn numbered(verdict: Verdict) -> Mark
     ensures { λ r. ⌜ (r .code ≡ codeOf verdict) × (r .place ≡ placeOf verdict) ⌝ }
 {
     match verdict {
-        Verdict::Passed => Numbers { code: 0, place: 0 },
+        Verdict::Passed => Mark { code: 0, place: 0 },
         Verdict::Refused(f) => {
             let code = f.code;
-            Numbers {
+            Mark {
                 code: code_number(code),
                 place: f.place,
             }

@@ -34,11 +34,11 @@ refused-is-broken bytes q =
     }
 
 pub broken-is-refused : (bytes : List ℕ) → Broken bytes → parsed bytes ≡ refused Sheet
-broken-is-refused bytes b = by-outcome (parsed bytes) refl
+broken-is-refused bytes b = go (parsed bytes) refl
   where
-    by-outcome : (p : Parsed) → parsed bytes ≡ p → p ≡ refused Sheet
-    by-outcome (accepted l) q = let w = accepted-is-text bytes l q in absurd (b .no-street l (w .1) (w .0))
-    by-outcome (refused c) q =
+    go : (p : Parsed) → parsed bytes ≡ p → p ≡ refused Sheet
+    go (accepted l) q = let w = accepted-is-text bytes l q in absurd (b .no-street l (w .1) (w .0))
+    go (refused c) q =
         ⊎-elim (λ e. ap refused e) (λ e. absurd (b .no-miscount (refused-is-miscount bytes (q ∙ ap refused e)))) (own-codes bytes c q)
 
 module _ {bytes : List ℕ} {street : Lists → Type 0} {refusal : Code → Type 0} where
@@ -75,11 +75,11 @@ pub record Written (bytes : List ℕ) : Type 0 where
 
 -- one of the three cases holds of any bytes
 pub one-holds : (bytes : List ℕ) → Written bytes ⊎ (CountFault bytes ⊎ Broken bytes)
-one-holds bytes = by-parsed (parsed bytes) refl
+one-holds bytes = go (parsed bytes) refl
   where
-    by-parsed : (p : Parsed) → parsed bytes ≡ p → Written bytes ⊎ (CountFault bytes ⊎ Broken bytes)
-    by-parsed (accepted l) q = let w = accepted-is-text bytes l q in inl (record { street = l; writable = w .1; is-text = w .0 })
-    by-parsed (refused c) q =
+    go : (p : Parsed) → parsed bytes ≡ p → Written bytes ⊎ (CountFault bytes ⊎ Broken bytes)
+    go (accepted l) q = let w = accepted-is-text bytes l q in inl (record { street = l; writable = w .1; is-text = w .0 })
+    go (refused c) q =
         inr
         (⊎-elim (λ e. inr (refused-is-broken bytes (q ∙ ap refused e))) (λ e. inl (refused-is-miscount bytes (q ∙ ap refused e))) (own-codes bytes c q))
 

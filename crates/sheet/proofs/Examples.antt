@@ -8,11 +8,10 @@ use lib.ListN.{replicate}
 use lib.Dec.{lit<, lit≤}
 use Rattle.street.specs.Lists.{Lists}
 use Rattle.street.specs.declared.Code.the-variants as code
-use Rattle.street.specs.declared.Verdict.the-variants as verdict
 use Rattle.decimal.specs.Decimal.{digitsUpTo}
 use Rattle.sheet.specs.declared.Reading.{Reading}
 use Rattle.sheet.specs.Form.{text, pairLines, Writable, CountFault}
-use Rattle.sheet.specs.Reading.{refusing, sheetOf}
+use Rattle.sheet.specs.Reading.{passing, refusing}
 use Rattle.sheet.specs.Steps.Kinds.{kindOf}
 use Rattle.sheet.specs.Steps.Numbers.{more, number}
 use Rattle.sheet.specs.Steps.Sections.{pairs, section, cycleSection}
@@ -62,7 +61,7 @@ pub text-a : text streetA ≡ sheetA
 unfolding text pairLines digitsUpTo
 text-a = refl
 
-pub reading-a : readingOf sheetA ≡ record { verdict = verdict.Passed; sheet = sheetOf streetA }
+pub reading-a : readingOf sheetA ≡ passing streetA
 unfolding parsed afterCycle afterSignals cycleSection section pairs number more kindOf
 reading-a = refl
 

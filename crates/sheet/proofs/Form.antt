@@ -12,14 +12,12 @@ use Rattle.road.specs.Limits.{minSignals, maxSignals}
 use Rattle.street.specs.Lists.{Lists, signals}
 use Rattle.street.specs.declared.Code.{Code}
 use Rattle.street.specs.declared.Code.the-variants.{Sheet}
-use Rattle.street.specs.declared.Verdict.the-variants.{Passed}
 use Rattle.decimal.specs.Decimal.{decimal}
 use Rattle.decimal.specs.Lines.{lineEnd}
 use Rattle.sheet.specs.Form.{maxBytes, pairLines, text, EightDigits, Writable}
-use Rattle.sheet.specs.Reading.{passing}
 use Rattle.sheet.specs.Steps.Numbers.{thenLine}
 use Rattle.sheet.specs.Steps.Sections.{Lines, lines, fault, pairs, section, cycleSection}
-use Rattle.sheet.specs.Steps.Parsed.{Parsed, accepted, refused, thenLines, atEnd, afterSignals, afterCycle, parsed, toReading, readingOf}
+use Rattle.sheet.specs.Steps.Parsed.{Parsed, accepted, refused, thenLines, atEnd, afterSignals, afterCycle, parsed}
 use Rattle.sheet.proofs.Backwards.{past-line, past-test}
 use Rattle.sheet.proofs.LineForms.{pairs-read, section-read, cycle-read, SectionWrote, section-wrote, cycle-wrote}
 
@@ -131,19 +129,3 @@ accepted-is-text bytes l e =
     (cycle-wrote bytes (c .0) (c .1) (c .2))
     (section-wrote minSignals maxSignals (c .1) (s .0) (s .1) (s .2) (s .3))
     (rw (z .0) at (section-wrote (length (s .1) - 1) (length (s .1) - 1) (s .2) (k .0) (k .1) (k .2) (k .3))))
-
--- ---- the same, said of the reader's answer
-
--- the reader hands back the numbers of a writable street's text
-pub text-is-read : (l : Lists) → Writable l → readingOf (text l) ≡ passing l
-text-is-read l w = ap toReading (text-is-accepted l w)
-
--- where the reader passes a sheet, the bytes are the text of a writable street, and the numbers are that street's
-pub passed-is-text : (bytes : List ℕ) → readingOf bytes .verdict ≡ Passed →
-    (l : Lists) × (bytes ≡ text l) × Writable l × (readingOf bytes ≡ passing l)
-passed-is-text bytes e = by-outcome (parsed bytes) refl e
-  where
-    by-outcome : (p : Parsed) → parsed bytes ≡ p → toReading p .verdict ≡ Passed →
-        (l : Lists) × (bytes ≡ text l) × Writable l × (readingOf bytes ≡ passing l)
-    by-outcome (accepted l) q v = let w = accepted-is-text bytes l q in (l, w .0, w .1, ap toReading q)
-    by-outcome (refused c) q v = absurd (let z : _≡_ {A = ℕ} 0 1 = cc in omega arith)

@@ -1,4 +1,4 @@
--- What the values that the reader's own functions hand on say of the bytes: a cursor stands for the bytes from it on. The contracts of `read` and `fill` cite none of this.
+-- What the values that the reader's own functions hand on say of the bytes: a cursor stands for the bytes from it on.
 use Prim.Native.Nat.{ℕ, _≤_}
 use mathlib.Core.List.{List}
 use lib.ListN.{drop}

@@ -7,7 +7,7 @@ use Rattle.sheet.specs.declared.Byte.{Byte}
 use Rattle.sheet.specs.declared.Byte.the-variants.{Digit, Space, LineEnd, Other}
 use Rattle.sheet.specs.Steps.Kinds.{kindOf}
 
--- what reading a number comes to: its value and the bytes after the space or the line end that ended it, or that no number can be read there
+-- what reading a number comes to: its value and the bytes after the space or the line end that followed, or that no number can be read there
 pub data Taken : Type 0 where
   followed : ℕ → List ℕ → Taken
   ended : ℕ → List ℕ → Taken
