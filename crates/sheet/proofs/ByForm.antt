@@ -13,7 +13,7 @@ use Rattle.sheet.specs.Reading.{passing, refusing, Reads}
 use Rattle.sheet.specs.Steps.Parsed.{Parsed, accepted, refused, parsed, toReading, readingOf}
 use Rattle.sheet.proofs.Codes.{own-codes}
 use Rattle.sheet.proofs.Form.{not-accepted, text-is-accepted, accepted-is-text}
-use Rattle.sheet.proofs.Counts.{not-refused, miscount-is-refused, refused-is-miscount}
+use Rattle.sheet.proofs.Counts.{refusals-differ, miscount-is-refused, refused-is-miscount}
 
 -- what is said of an outcome of the reader
 abbrev pub Comes : (Lists → Type 0) → (Code → Type 0) → Parsed → Type 0
@@ -30,7 +30,7 @@ pub refused-is-broken : (bytes : List ℕ) → parsed bytes ≡ refused Sheet �
 refused-is-broken bytes q =
     record {
       no-street = λ l w e. not-accepted Sheet l (sym q ∙ ap parsed e ∙ text-is-accepted l w);
-      no-miscount = λ f. not-refused (sym q ∙ miscount-is-refused bytes f);
+      no-miscount = λ f. refusals-differ (sym q ∙ miscount-is-refused bytes f);
     }
 
 pub broken-is-refused : (bytes : List ℕ) → Broken bytes → parsed bytes ≡ refused Sheet

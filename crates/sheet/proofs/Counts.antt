@@ -87,11 +87,11 @@ miscount-is-refused bytes f = ⊎-elim (signals-refused bytes (f .fits)) (links-
 pub codes-differ : Sheet ≡ Count → ⊥
 codes-differ e = let z : _≡_ {A = ℕ} 0 1 = cc in omega arith
 
-not-fault : fault Sheet ≡ fault Count → ⊥
-not-fault e = codes-differ cc
+faults-differ : fault Sheet ≡ fault Count → ⊥
+faults-differ e = codes-differ cc
 
-pub not-refused : refused Sheet ≡ refused Count → ⊥
-not-refused e = codes-differ cc
+pub refusals-differ : refused Sheet ≡ refused Count → ⊥
+refusals-differ e = codes-differ cc
 
 above-fault : (x y : ℕ) (l : Lines) (c : Code) → above x y l ≡ fault c → l ≡ fault c
 above-fault x y (lines xs ys rest) c e = absurd (let z : _≡_ {A = ℕ} 0 1 = cc in omega arith)
@@ -103,8 +103,8 @@ unfolding pairs
 pairs-count zero bytes e = let z : _≡_ {A = ℕ} 0 1 = cc in omega arith
 pairs-count (suc n) bytes e =
     let second : ℕ → List ℕ → Lines = λ x r. thenLine (fault Sheet) (number r) (λ y a. above x y (pairs n a)) in
-    let p = past-space (fault Sheet) second (fault Count) not-fault (number bytes) e in
-    let q = past-line (fault Sheet) (λ y a. above (p .0) y (pairs n a)) (fault Count) not-fault (number (p .1)) (p .3) in
+    let p = past-space (fault Sheet) second (fault Count) faults-differ (number bytes) e in
+    let q = past-line (fault Sheet) (λ y a. above (p .0) y (pairs n a)) (fault Count) faults-differ (number (p .1)) (p .3) in
     pairs-count n (q .1) (above-fault (p .0) (q .0) (pairs n (q .1)) Count (q .3))
 
 outside : (least most n : ℕ) → within least most n ≡ false → Outside least most n
@@ -132,7 +132,7 @@ section-miscounted : (least most : ℕ) (bytes : List ℕ) → section least mos
 unfolding section
 section-miscounted least most bytes e =
     let judge : ℕ → List ℕ → Lines = λ n r. cond (within least most n) (pairs n r) (fault Count) in
-    let l = past-line (fault Sheet) judge (fault Count) not-fault (number bytes) e in
+    let l = past-line (fault Sheet) judge (fault Count) faults-differ (number bytes) e in
     let w = line-wrote bytes (l .0) (l .1) (l .2) in
     record {
       count = l .0;
@@ -189,7 +189,7 @@ module _ (bytes : List ℕ) (cycle : ℕ) (s : EightDigits cycle) where
 
 end-counts : (l : Lists) (bytes : List ℕ) → atEnd l bytes ≡ refused Count → ⊥
 end-counts l [] e = let z : _≡_ {A = ℕ} 0 1 = cc in omega arith
-end-counts l (b ∷ bytes) e = not-refused e
+end-counts l (b ∷ bytes) e = refusals-differ e
 
 -- what the sections after the cycle tell of a code 2
 after-cycle : (bytes : List ℕ) (cycle : ℕ) (after : List ℕ) → EightDigits cycle → bytes ≡ decimal 1 ++ lineEnd ∷ (decimal cycle ++ lineEnd ∷ after) →
@@ -222,7 +222,7 @@ pub refused-is-miscount : (bytes : List ℕ) → parsed bytes ≡ refused Count 
 unfolding parsed
 refused-is-miscount bytes e =
     let after : Parsed = thenLine (refused Sheet) (cycleSection bytes) (λ c r. afterCycle c r) in
-    let t = past-test after (refused Sheet) (refused Count) not-refused (leb (length bytes) maxBytes) e in
-    let c = past-line (refused Sheet) (λ c r. afterCycle c r) (refused Count) not-refused (cycleSection bytes) (t .1) in
+    let t = past-test after (refused Sheet) (refused Count) refusals-differ (leb (length bytes) maxBytes) e in
+    let c = past-line (refused Sheet) (λ c r. afterCycle c r) (refused Count) refusals-differ (cycleSection bytes) (t .1) in
     let w = cycle-wrote bytes (c .0) (c .1) (c .2) in
     record { fits = leb-true (length bytes) maxBytes (t .0); miscount = after-cycle bytes (c .0) (c .1) (w .1) (w .0) (c .3) }

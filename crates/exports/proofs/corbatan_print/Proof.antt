@@ -8,7 +8,7 @@ equal-text-requires : tie.Need-equal-text-requires
 equal-text-requires c κs = search needs
 
 returns : tie.Need-returns
-returns c = record { printed = _; prints = c .before .equal-text .ensures; reply = refl }
+returns c = record { printed = c .before .equal-text .result; prints = c .before .equal-text .ensures; reply = refl }
 
 pub corbatan-print-spec : {M : Type 1} → statement M
 corbatan-print-spec = tie.close (tie.spec equal-text-requires returns)
