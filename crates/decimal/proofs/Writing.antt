@@ -9,7 +9,7 @@ use mathlib.Core.Path.{_≡_, refl, sym, ap, ap₂, _∙_}
 use mathlib.Core.List.{List, [], _∷_, _++_, append-assoc, append-nil}
 use lib.ListN.{length, take, drop, set, length-append, length-drop, take-append-drop}
 use lib.Seq.{lt-length-set, length-take-le, take-at, drop-at, drop-drop, drop-cons, drop-set-lt, take-set-le, getD-set-same, append-snoc, set-split}
-use Rattle.decimal.specs.Writing.{overwritten, Writes}
+use Rattle.decimal.specs.Steps.{overwritten, Writes}
 
 -- nothing written
 pub overwritten-none : (at : ℕ) (l : List ℕ) → overwritten at [] l ≡ l

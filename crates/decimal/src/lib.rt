@@ -4,7 +4,7 @@ ghost use mathlib.Core.Path.{_≡_};
 ghost use mathlib.Core.List.{[], _∷_, _++_};
 ghost use lib.ListN.{length};
 ghost use Rattle.decimal.specs.Decimal.{decimal, signedDecimal};
-ghost use Rattle.decimal.specs.Writing.{Writes};
+ghost use Rattle.decimal.specs.Steps.{Writes};
 
 // The digit 0 and the minus sign.
 const ZERO: u8 = 48;

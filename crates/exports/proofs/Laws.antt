@@ -7,7 +7,7 @@ use Rattle.street.specs.Codes.{codeNumber, codeOf, placeOf}
 use Rattle.street.specs.Lists.{Lists}
 use Rattle.street.specs.declared.Refusal.{Refusal}
 use Rattle.sheet.specs.declared.Head.{Head}
-use Rattle.sheet.specs.Filled.{assembled}
+use Rattle.sheet.specs.Steps.Filled.{assembled}
 use Rattle.plans.specs.Answers.{noPlan}
 use Rattle.plans.specs.Requests as plans
 use Rattle.plans.specs.declared.Plan.{Plan}

@@ -1,4 +1,4 @@
--- A sheet between its reading and its plan, for private functions and the proofs. No contract of a public call cites this.
+-- Steps: what the library's functions say to each other and to the proofs, here of a sheet between its reading and its plan. No contract of a public call cites it.
 use Prim.Native.Nat.{_-_, _≤_}
 use mathlib.Core.Path.{_≡_}
 use lib.ListN.{length, take}

@@ -14,7 +14,7 @@ ghost use Prim.Native.Nat.{_+_, _≤_};
 ghost use mathlib.Core.Path.{_≡_};
 ghost use lib.ListN.{length, take};
 ghost use Rattle.road.specs.Limits.{maxSignals};
-ghost use Rattle.decimal.specs.Writing.{Writes};
+ghost use Rattle.decimal.specs.Steps.{Writes};
 ghost use Rattle.printed.specs.Text.{maxText, planLine, offsetLines, refusalLine, textOf, printedOf, Prints};
 ghost use Rattle.printed.specs.Way.{lentOf, planText, PrintsAnswer};
 ghost use Rattle.printed.specs.Steps.{listsOf, Held};

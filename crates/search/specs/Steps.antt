@@ -1,4 +1,4 @@
--- What the functions of this crate say to each other and to proofs; no contract of a public call cites it.
+-- Steps: what the library's functions say to each other and to the proofs. No contract of a public call cites it.
 -- The search keeps widths raised by the cycle H, so that none is negative: a raised number less H is the signed one.
 use Prim.Native.Nat.{ℕ, _+_, _-_, _*_, _≤_, _<_, max}
 use mathlib.Core.Path.{_≡_}

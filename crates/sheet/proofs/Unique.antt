@@ -6,7 +6,7 @@ use mathlib.Core.List.{List}
 use Rattle.sheet.specs.declared.Head.{Head}
 use Rattle.sheet.specs.declared.Reading.{Reading}
 use Rattle.sheet.specs.Reading.{passing, refusing, Reads}
-use Rattle.sheet.specs.Filled.{assembled}
+use Rattle.sheet.specs.Steps.Filled.{assembled}
 use Rattle.sheet.proofs.ByForm.{same-by-form}
 
 -- two replies that the contract of `read` allows for the same bytes are equal

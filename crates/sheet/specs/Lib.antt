@@ -1,4 +1,3 @@
 pub mod Form
 pub mod Reading
-pub mod Filled
 pub mod Steps

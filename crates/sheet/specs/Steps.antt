@@ -1,6 +1,7 @@
--- How the reader goes through the bytes, step by step, for its private functions and the proofs. No contract of a public call cites this.
+-- Steps: what the library's functions say to each other and to the proofs, here how the reader goes through the bytes. No contract of a public call cites it.
 pub mod Kinds
 pub mod Numbers
 pub mod Sections
 pub mod Parsed
+pub mod Filled
 pub mod Cursors

@@ -7,7 +7,7 @@ ghost use Rattle.road.specs.Limits.{maxSignals};
 ghost use Rattle.road.specs.Steps.{Zeros};
 ghost use Rattle.sheet.specs.Form.{maxBytes};
 ghost use Rattle.sheet.specs.Reading.{Reads};
-ghost use Rattle.sheet.specs.Filled.{assembled};
+ghost use Rattle.sheet.specs.Steps.Filled.{assembled};
 ghost use Rattle.sheet.specs.Steps.Kinds.{kindOf};
 ghost use Rattle.sheet.specs.Steps.Numbers.{number, more};
 ghost use Rattle.sheet.specs.Steps.Sections.{pairs, section, cycleSection};

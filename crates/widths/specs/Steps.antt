@@ -1,4 +1,4 @@
--- What the functions of this crate say to each other and to proofs; no contract of a public call cites it.
+-- Steps: what the library's functions say to each other and to the proofs. No contract of a public call cites it.
 use Prim.Native.Nat.{ℕ, _*_, _≤_}
 use mathlib.Core.Path.{_≡_}
 use Rattle.circle.specs.Method.{Timed, B}

@@ -9,7 +9,7 @@ use mathlib.Core.List.{List}
 use lib.ListN.{length, set, length-set}
 use borrow.Author.Needs.{needs}
 use Rattle.decimal.specs.Decimal.{decimal}
-use Rattle.decimal.specs.Writing.{overwritten}
+use Rattle.decimal.specs.Steps.{overwritten}
 use Rattle.decimal.proofs.Digits.{one-digit, decimal-more, size-more, decimal-some}
 use Rattle.decimal.proofs.Writing.{last-first, overwritten-byte}
 use Rattle.decimal.proofs.write.Statement.{statement}

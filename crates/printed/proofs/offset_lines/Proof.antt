@@ -8,7 +8,7 @@ use mathlib.Core.List.{[], _∷_, _++_}
 use lib.ListN.{length, drop, getD, length-append}
 use borrow.Author.Needs.{needs}
 use Rattle.decimal.specs.Decimal.{decimal}
-use Rattle.decimal.specs.Writing.{overwritten, Writes}
+use Rattle.decimal.specs.Steps.{overwritten, Writes}
 use Rattle.decimal.proofs.Writing.{overwritten-none, room-first, goes-on}
 use Rattle.printed.specs.Text.{offsetLines}
 use Rattle.printed.proofs.Lines.{offset-line, no-offset-line}

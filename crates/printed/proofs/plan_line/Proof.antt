@@ -11,7 +11,7 @@ use mir.Val.{SFits, toZ, ofZ}
 use mir.ValLaws.{toZ-ofZ}
 use borrow.Author.Needs.{needs}
 use Rattle.decimal.specs.Decimal.{decimal, signedDecimal}
-use Rattle.decimal.specs.Writing.{Writes}
+use Rattle.decimal.specs.Steps.{Writes}
 use Rattle.decimal.proofs.Writing.{writes-twice, writes-as}
 use Rattle.plans.specs.declared.Plan.{Plan}
 use Rattle.printed.specs.Text.{planLine}

@@ -8,7 +8,7 @@ use lib.ListN.{length}
 use borrow.Author.Needs.{needs}
 use Rattle.street.specs.Codes.{codeNumber}
 use Rattle.decimal.specs.Decimal.{decimal}
-use Rattle.decimal.specs.Writing.{Writes}
+use Rattle.decimal.specs.Steps.{Writes}
 use Rattle.decimal.proofs.Writing.{writes-twice, writes-as}
 use Rattle.printed.specs.Text.{refusedWord, refusalLine}
 use Rattle.printed.proofs.Lines.{three-items, three-sizes}

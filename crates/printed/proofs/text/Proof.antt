@@ -6,7 +6,7 @@ use mathlib.Core.Path.{_≡_, ap, _∙_}
 use mathlib.Core.List.{List, _++_}
 use lib.ListN.{length, drop, replicate}
 use borrow.Author.Needs.{needs}
-use Rattle.decimal.specs.Writing.{Writes}
+use Rattle.decimal.specs.Steps.{Writes}
 use Rattle.printed.specs.Text.{maxText, printedOf}
 use Rattle.printed.specs.declared.Printed.{Printed}
 use Rattle.printed.proofs.Sizes.{text-size}

@@ -14,7 +14,7 @@ use Rattle.sheet.specs.declared.Outcome.{Outcome}
 use Rattle.sheet.specs.declared.Outcome.the-variants.{Whole, Fault}
 use Rattle.sheet.specs.declared.Reading.{Reading}
 use Rattle.sheet.specs.Reading.{inArray, refusing}
-use Rattle.sheet.specs.Filled.{assembled}
+use Rattle.sheet.specs.Steps.Filled.{assembled}
 use Rattle.sheet.specs.Steps.Numbers.{Taken, followed, ended, unreadable}
 use Rattle.sheet.specs.Steps.Sections.{Lines, lines, fault, pairs}
 

@@ -1,4 +1,5 @@
--- What writing does to a lent list of bytes: some bytes take the place of those that stood there, and the next place is told.
+-- Steps: what the library's functions say to each other and to the proofs, here of writing into a lent list: some bytes take the place of those that stood there, and the next place is told.
+-- No contract of a public call cites it.
 use Prim.Native.Nat.{ℕ, _+_}
 use mathlib.Core.Path.{_≡_}
 use mathlib.Core.List.{List, _++_}
