@@ -1,2 +1,3 @@
 pub mod Pairs
 pub mod Leading
+pub mod Unique
