@@ -2,7 +2,7 @@
 use mathlib.Core.Bool.{Bool, true, false, cond}
 use Prim.Native.Nat.{ℕ}
 use lib.IntN.{ℤ, pos, negsuc}
-use lib.Dec.{leb, eqb}
+use lib.Dec.{leb}
 
 -- whether the first signed number is at most the second
 abbrev pub leℤ : ℤ → ℤ → Bool
@@ -11,12 +11,9 @@ leℤ (pos a) (negsuc b) = false
 leℤ (negsuc a) (pos b) = true
 leℤ (negsuc a) (negsuc b) = leb b a
 
--- whether two signed numbers are equal
+-- whether two signed numbers are equal: each is at most the other
 abbrev pub eqℤ : ℤ → ℤ → Bool
-eqℤ (pos a) (pos b) = eqb a b
-eqℤ (pos a) (negsuc b) = false
-eqℤ (negsuc a) (pos b) = false
-eqℤ (negsuc a) (negsuc b) = eqb a b
+eqℤ x y = cond (leℤ x y) (leℤ y x) false
 
 -- the smaller of two signed numbers
 abbrev pub minℤ : ℤ → ℤ → ℤ

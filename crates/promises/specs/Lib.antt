@@ -1,4 +1,5 @@
 pub mod Exact
 pub mod Replies
+pub mod Measures
 pub mod Rows
 pub mod Witnesses

@@ -1,16 +1,14 @@
 -- What is promised of a call's reply: of the numbers in every reply with code 0 that the call's contract allows, and of the offsets that the call leaves in the lent list. One notion says what a
--- plan keeps, and it is promised at rounded times with nothing lost and at exact times with m halves lost (demand 3); the equal plan is the published method's own (demand 2); and
--- `measure` takes the offsets that any plan leaves and finds its widths.
+-- plan keeps, and it is promised at rounded times with nothing lost and at exact times with m halves lost (demand 3); and the equal plan is the published method's own (demand 2).
 use Prim.Native.Nat.{ℕ, _+_, _-_, _*_, _≤_, _<_, min}
 use mathlib.Core.Path.{_≡_}
 use mathlib.Core.Bool.{true}
 use mathlib.Core.List.{List}
 use lib.IntN.{pos, _-ℤ_}
-use lib.ListN.{length, take, getD}
+use lib.ListN.{length, getD}
 use Rattle.circle.specs.Man.{man}
 use Rattle.circle.specs.Method.{B, reference, offset, equalWidth, redEnd, redStart}
 use Rattle.circle.specs.Bands.{Way, clear, width}
-use Rattle.road.specs.Times.{linkLength}
 use Rattle.street.specs.Lists.{Lists, signals}
 use Rattle.street.specs.Checks.{planChecks}
 use Rattle.street.specs.Streets.{timed, m}
@@ -24,8 +22,7 @@ use Rattle.plans.specs.Answers.{planVerdict, planNumbers}
 use Rattle.plans.specs.Requests.{Requested}
 use Rattle.plans.specs.declared.Answer.{Answer}
 use Rattle.plans.specs.declared.Plan.{Plan}
-use Rattle.bands.specs.Measure as bands
-use Rattle.promises.specs.Exact.{Fine, exactLink, Ways, roundedWays, exactWays}
+use Rattle.promises.specs.Exact.{Fine, Ways, roundedWays, exactWays}
 
 -- how long after the start of a named band the departure x comes by at c, round the cycle: the band starts there so many halves before a named instant (01, 'Moving width': inside is by
 -- the instant at c)
@@ -76,21 +73,7 @@ KeptExact =
 abbrev pub FineExists : Type 0
 FineExists = (l : Lists) (room : ℕ) → planChecks l room ≡ Passed → (N : ℕ) × Fine l N
 
--- and in it nothing is cut off: on each link the exact time, times the speed, is 20dN, both ways
-abbrev pub NothingLost : Type 0
-NothingLost =
-    (l : Lists) (N : ℕ) → Fine l N → (k : ℕ) → k < signals l - 1 →
-    (exactLink N (l .distances) (l .outbound) k * getD (l .outbound) k 0 ≡ 20 * linkLength (l .distances) k * N)
-    × (exactLink N (l .distances) (l .inbound) k * getD (l .inbound) k 0 ≡ 20 * linkLength (l .distances) k * N)
-
--- 3. `measure` takes the offsets that a plan leaves, refuses none of them, and finds both widths as reported (01, 'Measuring')
-abbrev pub MeasureAgrees : Type 0
-MeasureAgrees =
-    OfReplies λ request l exit p.
-    let found = bands.bandNumbers (bands.measurementOf l (take (signals l) exit)) in
-    (found .code ≡ 0) × (found .outbound .width ≡ p .outbound) × (found .inbound .width ≡ p .inbound)
-
--- 4. The equal plan is the published method's own (01, 'The equal plan'): the checks of every plan alone judge a call for it, and with code 0 the reply's numbers and the offset of each signal are
+-- 3. The equal plan is the published method's own (01, 'The equal plan'): the checks of every plan alone judge a call for it, and with code 0 the reply's numbers and the offset of each signal are
 -- the method's formulas at the reference c, nothing lowered
 abbrev pub EqualIsMethod : Type 0
 EqualIsMethod =

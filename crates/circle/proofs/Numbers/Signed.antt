@@ -3,12 +3,12 @@
 -- Assumes nothing.
 use Prim.Native.Nat.{ℕ, zero, suc, _+_, _-_, _≤_, _<_, min, max}
 use mathlib.Core.Path.{_≡_, refl, sym, ap, ap₂, _∙_}
-use mathlib.Core.Bool.{Bool, true, false, cond}
+use mathlib.Core.Bool.{true, false, cond}
 use native.Mathlib.Omega.{arith}
 use native.Mathlib.Decide.{decLt, decLe}
 use lib.IntN.{ℤ, pos, negsuc, subℕ, negℤ, _+ℤ_, _-ℤ_}
 use lib.Dec.{leb}
-use borrow.Author.Tests.{lt-ltb, le-ltb, le-leb, lt-leb, eq-eqb, eqb-true}
+use borrow.Author.Tests.{lt-ltb, le-ltb, le-leb, lt-leb}
 use Rattle.circle.specs.Signed.{leℤ, eqℤ, minℤ, maxℤ, orZero}
 
 pub sub-pos : (a b : ℕ) → b ≤ a → subℕ a b ≡ pos (a - b)
@@ -123,29 +123,26 @@ le-sub a b h = go (decLt a h) (decLt b h)
         let l : h ≤ b = omega arith in
         ap₂ leℤ (sub-pos a h k) (sub-pos b h l) ∙ leb-agree (a - h) (b - h) a b (omega arith) (omega arith)
 
+both-ways : (a b : ℕ) → a ≡ b → cond (leb a b) (leb b a) false ≡ true
+both-ways a b e = ap₂ (λ t u. cond t u false) (le-leb a b (omega arith)) (le-leb b a (omega arith))
+
 pub eqℤ-refl : (x : ℤ) → eqℤ x x ≡ true
-eqℤ-refl (pos a) = eq-eqb a a refl
-eqℤ-refl (negsuc a) = eq-eqb a a refl
-
-false-true : _≡_ {A = Bool} false true → ⊥
-false-true e = let z : _≡_ {A = ℕ} 0 1 = cc in omega arith
-
-eqℤ-sound : (x y : ℤ) → eqℤ x y ≡ true → x ≡ y
-eqℤ-sound (pos a) (pos b) e = ap pos (eqb-true a b e)
-eqℤ-sound (pos a) (negsuc b) e = absurd (false-true e)
-eqℤ-sound (negsuc a) (pos b) e = absurd (false-true e)
-eqℤ-sound (negsuc a) (negsuc b) e = ap negsuc (eqb-true a b e)
+eqℤ-refl (pos a) = both-ways a a refl
+eqℤ-refl (negsuc a) = both-ways a a refl
 
 pub sub-injective : (a b h : ℕ) → subℕ a h ≡ subℕ b h → a ≡ b
 sub-injective a b h e =
     omega (arith, up-down a h, up-down b h, ap up e, ap down e)
 
 pub ne-sub : (a b h : ℕ) → (a ≡ b → ⊥) → eqℤ (subℕ a h) (subℕ b h) ≡ false
-ne-sub a b h n = go (eqℤ (subℕ a h) (subℕ b h)) refl
+ne-sub a b h n = ap₂ (λ t u. cond t u false) (le-sub a b h) (le-sub b a h) ∙ go (decLe a b)
   where
-    go : (t : Bool) → eqℤ (subℕ a h) (subℕ b h) ≡ t → t ≡ false
-    go true e = absurd (n (sub-injective a b h (eqℤ-sound (subℕ a h) (subℕ b h) e)))
-    go false e = refl
+    go : Dec (a ≤ b) → cond (leb a b) (leb b a) false ≡ false
+    go (yes l) = ap₂ (λ t u. cond t u false) (le-leb a b l) (lt-leb b a (other l))
+      where
+        other : a ≤ b → a < b
+        other l = omega (arith, n)
+    go (no l) = ap (λ t. cond t (leb b a) false) (lt-leb a b (omega arith))
 
 pub min-sub : (a b h : ℕ) → minℤ (subℕ a h) (subℕ b h) ≡ subℕ (min a b) h
 min-sub a b h = go (decLe a b)

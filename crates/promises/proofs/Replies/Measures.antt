@@ -19,7 +19,7 @@ use Rattle.widths.specs.declared.Shift.{Shift}
 use Rattle.plans.proofs.Unique.{offsets-below}
 use Rattle.bands.specs.Measure.{badOffset, offsetCheck, measureChecks, measuredOf, foundOr, measurementOf, bandNumbers}
 use Rattle.bands.proofs.CheckLaws.{checks-full}
-use Rattle.promises.specs.Replies.{MeasureAgrees}
+use Rattle.promises.specs.Measures.{MeasureAgrees}
 use Rattle.promises.proofs.Streets.Passing.{fit, bounded, rising}
 use Rattle.promises.proofs.Bands.Widths.{bands-measured}
 use Rattle.promises.proofs.Kept.{Follows, plan-bands}

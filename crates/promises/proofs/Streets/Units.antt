@@ -9,7 +9,8 @@ use lib.ListN.{getD}
 use Rattle.road.specs.Times.{linkLength}
 use Rattle.street.specs.Lists.{Lists, signals}
 use Rattle.street.proofs.Passed.{in-limits}
-use Rattle.promises.specs.Replies.{FineExists, NothingLost}
+use Rattle.promises.specs.Exact.{Fine, exactLink}
+use Rattle.promises.specs.Replies.{FineExists}
 
 -- the product of f over the indices below n
 product : ℕ → (ℕ → ℕ) → ℕ
@@ -66,7 +67,11 @@ fine-exists l room passed =
       },
     )
 
-pub nothing-lost : NothingLost
+-- in a fine unit nothing is cut off: on each link the exact time, times the speed, is 20dN, both ways
+pub nothing-lost :
+    (l : Lists) (N : ℕ) → Fine l N → (k : ℕ) → k < signals l - 1 →
+    (exactLink N (l .distances) (l .outbound) k * getD (l .outbound) k 0 ≡ 20 * linkLength (l .distances) k * N)
+    × (exactLink N (l .distances) (l .inbound) k * getD (l .inbound) k 0 ≡ 20 * linkLength (l .distances) k * N)
 nothing-lost l N fine k h =
     let times = 20 * linkLength (l .distances) k * N in
     (omega (arith, mod-add-div' times (getD (l .outbound) k 0), fine .outbound k h), omega (arith, mod-add-div' times (getD (l .inbound) k 0), fine .inbound k h))
