@@ -4,7 +4,8 @@
 //! rules' signed formulas as they stand, by brute force, and shares nothing with the proved crates. The rest makes
 //! sheets and requests (`random`, `streets`, `limits`, `damage`, `offsets`, `asks`), runs the programs and the scripts
 //! on them (`run`, `scripts`) and compares (`trial`, `hold`, `coverage`, `asked`, `tally`); `page`, `paper` and
-//! `decimal` read the pages whose sheets and tables are run, and `pencil` works out what a page does by hand.
+//! `decimal` read the pages whose sheets and tables are run, and `pencil` works out what a page does by hand. `specs`
+//! reads the definitions themselves, for what is said of their names.
 
 pub mod asked;
 pub mod asks;
@@ -29,6 +30,7 @@ pub mod random;
 pub mod run;
 pub mod scripts;
 pub mod sheet;
+pub mod specs;
 pub mod street;
 pub mod streets;
 pub mod tally;

@@ -21,7 +21,12 @@ pub fn repository() -> &'static Path {
 
 /// The text of a file of the repository.
 pub fn text(name: &str) -> String {
-    fs::read_to_string(repository().join(name)).unwrap_or_else(|error| panic!("{name}: {error}"))
+    text_at(&repository().join(name))
+}
+
+/// The text of any file.
+pub fn text_at(file: &Path) -> String {
+    fs::read_to_string(file).unwrap_or_else(|error| panic!("{}: {error}", file.display()))
 }
 
 /// The kit's compiler folder for this machine: two folders above the command `rt`, then its own part.
