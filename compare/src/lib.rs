@@ -5,12 +5,14 @@
 //! sheets and requests (`random`, `streets`, `limits`, `damage`, `offsets`, `asks`), runs the programs and the scripts
 //! on them (`run`, `scripts`) and compares (`trial`, `hold`, `coverage`, `asked`, `tally`); `page`, `paper` and
 //! `decimal` read the pages whose sheets and tables are run, and `pencil` works out what a page does by hand. `specs`
-//! reads the definitions themselves, for what is said of their names.
+//! reads the definitions themselves, for what is said of their names, and `cited` (with `terms`) counts how many lines of
+//! them the contracts and the demands come to.
 
 pub mod asked;
 pub mod asks;
 pub mod bands;
 pub mod cases;
+pub mod cited;
 pub mod client;
 pub mod coverage;
 pub mod damage;
@@ -34,4 +36,5 @@ pub mod specs;
 pub mod street;
 pub mod streets;
 pub mod tally;
+pub mod terms;
 pub mod trial;

@@ -65,7 +65,7 @@ pub fn read(path: String, text: &str) -> File {
 
 /// Whether a line tells the type of a name: it has a colon, and no `=` before that.
 fn typed(words: &[&str]) -> bool {
-    words.iter().find(|&&word| word == ":" || word == "=") == Some(&&":")
+    words.iter().find(|&&word| word == ":" || word == "=") == Some(&":")
 }
 
 /// How far a line is set in.

@@ -1,15 +1,15 @@
 //! docs/WORKING.md held to the repository: what it names is there, and what it has to name is named.
 
 use compare::page::{coded, Page};
-use compare::run::{repository, text};
+use compare::run::{repository, text, text_at};
+use compare::specs::files_below;
 use std::collections::BTreeSet;
-use std::fs;
 
 /// Every file of the comparison, one after the other.
 fn compared() -> String {
-    let folders = ["compare/src", "compare/tests"].map(|folder| fs::read_dir(repository().join(folder)));
-    let files = folders.into_iter().flat_map(|folder| folder.expect("a folder of compare/"));
-    files.map(|file| fs::read_to_string(file.expect("a file").path()).expect("a source")).collect()
+    let folders = ["compare/src", "compare/tests"].map(|folder| repository().join(folder));
+    let files = folders.iter().flat_map(|folder| files_below(folder, ".rs"));
+    files.map(|file| text_at(&file)).collect()
 }
 
 #[test]
