@@ -2,14 +2,14 @@
 
 use compare::cases::{input, output};
 use compare::decimal::{decimal, digits, gain, nearest, number, seconds};
-use compare::equal::Plan;
+use compare::equal::{equal, Plan};
 use compare::moved::Ask;
 use compare::page::{coded, sheet, street, Page, Sample};
 use compare::paper::{asked, conversions, euclid, measured, parts, quarter, sample, LINKS, PARTS, SIGNALS};
-use compare::printed::plan_prints;
+use compare::printed::{plan_prints, printed};
 use compare::run::Program;
 use compare::sheet::{read, write, LARGEST_SHEET};
-use compare::street::{Street, Times};
+use compare::street::{Street, Times, MAX_SIGNALS};
 use std::collections::BTreeSet;
 
 fn typists() -> (Page, Vec<Sample>) {
@@ -37,14 +37,18 @@ fn the_typists_page_is_read_whole() {
     assert!(samples.iter().all(|sample| !sample.sheet.contains(&b'<')), "a mark is unknown");
 }
 
+/// Holds the model and `plan` to what a sheet gets.
+fn expect(program: &Program, sheet: &[u8], prints: &str, place: &str) {
+    assert_eq!(plan_prints(sheet), prints, "the model, on {place}");
+    let answer = program.answer(sheet).unwrap_or_else(|fault| panic!("{place}: {fault}"));
+    assert_eq!(String::from_utf8_lossy(&answer), prints, "plan, on {place}");
+}
+
 #[test]
 fn the_typists_sheets_get_what_the_page_says() {
     let program = Program::plan();
     for Sample { sheet, prints, line } in typists().1 {
-        let place = format!("docs/SHEETS.md, line {line}");
-        assert_eq!(plan_prints(&sheet), prints, "the model, on {place}");
-        let answer = program.answer(&sheet).unwrap_or_else(|fault| panic!("{place}: {fault}"));
-        assert_eq!(String::from_utf8_lossy(&answer), prints, "plan, on {place}");
+        expect(&program, &sheet, &prints, &format!("docs/SHEETS.md, line {line}"));
     }
 }
 
@@ -73,10 +77,12 @@ fn the_examples_come_out() {
 
 #[test]
 fn an_empty_line_anywhere_is_refused() {
-    let good = String::from_utf8(typists().1.remove(0).sheet).expect("the good sheet");
-    for at in (0..=good.len()).filter(|&at| at == 0 || good.as_bytes()[at - 1] == b'\n') {
-        let sheet = format!("{}\n{}", &good[..at], &good[at..]);
-        assert_eq!(plan_prints(sheet.as_bytes()), "refused 1 0\n", "{sheet:?}");
+    let (program, good) = (Program::plan(), typists().1.remove(0).sheet);
+    let starts: Vec<usize> = (0..=good.len()).filter(|&at| at == 0 || good[at - 1] == b'\n').collect();
+    assert!(starts.len() > 7, "{starts:?}");
+    for at in starts {
+        let sheet = [&good[..at], b"\n", &good[at..]].concat();
+        expect(&program, &sheet, "refused 1 0\n", &sheet.escape_ascii().to_string());
     }
 }
 
@@ -107,8 +113,9 @@ fn the_longest_sheet_of_a_street_is_as_the_page_says() {
         outbound: vec![40_000; 31],
         inbound: vec![40_000; 31],
     };
-    let sheet = write(&longest);
-    assert!(!plan_prints(&sheet).starts_with("refused") && sheet.len() < LARGEST_SHEET);
+    let (sheet, prints) = (write(&longest), printed(&equal(&longest, MAX_SIGNALS)));
+    assert!(!prints.starts_with("refused") && sheet.len() < LARGEST_SHEET);
+    expect(&Program::plan(), &sheet, &prints, "the longest sheet");
     typists().0.says(&format!("a street within the limits never needs more than {}.", sheet.len()));
 }
 

@@ -1,7 +1,7 @@
 //! What `cases` makes of its input as a whole: where cases begin and end, the lent list's length, and the greatest input.
 
 use compare::cases::{input, output, LARGEST_INPUT, LARGEST_ROOM};
-use compare::run::Program;
+use compare::run::{text, Program};
 use compare::sheet::{write, STREET_A};
 use compare::street::Street;
 
@@ -17,6 +17,15 @@ fn expect(program: &Program, bytes: &[u8], text: &str) {
 
 fn case(request: &str, sheet: &[u8]) -> Vec<u8> {
     [request.as_bytes(), b"\n", sheet].concat()
+}
+
+#[test]
+fn the_crates_own_cases_get_what_stands_beside_them() {
+    let (asked, replies) = (text("crates/cases/stdin"), text("crates/cases/stdout"));
+    expect(&Program::cases(), asked.as_bytes(), &replies);
+    for word in ["equal", "outbound", "inbound", "platoons", "measure"] {
+        assert!(asked.split('\0').any(|case| case.starts_with(word)), "no case asks for {word}");
+    }
 }
 
 #[test]

@@ -51,6 +51,14 @@ fn plan_answers_as_the_readme_says() {
 }
 
 #[test]
+fn the_crates_own_sheet_gets_what_stands_beside_it() {
+    let (sheet, prints) = (text("crates/plan/stdin"), text("crates/plan/stdout"));
+    assert_eq!(plan_prints(sheet.as_bytes()), prints, "the model");
+    let answer = Program::plan().answer(sheet.as_bytes()).unwrap_or_else(|fault| panic!("{fault}"));
+    assert_eq!(String::from_utf8_lossy(&answer), prints, "plan");
+}
+
+#[test]
 fn plan_sees_that_a_sheet_is_too_long() {
     let program = Program::plan();
     let count_fault = b"1\n100\n33\n";
