@@ -1,15 +1,17 @@
 //! docs/PAPER.md, docs/SHEETS.md and docs/EXAMPLES.md: their sheets and requests through the programs, and their numbers worked out anew.
 
+use compare::bands::{measure, Band};
 use compare::cases::{input, output};
 use compare::decimal::{decimal, digits, gain, nearest, number, seconds};
 use compare::equal::{equal, Plan};
 use compare::moved::Ask;
+use compare::named::named;
 use compare::page::{coded, sheet, street, Page, Sample};
 use compare::paper::{asked, conversions, euclid, measured, parts, quarter, sample, LINKS, PARTS, SIGNALS};
 use compare::printed::{plan_prints, printed};
 use compare::run::Program;
 use compare::sheet::{read, write, LARGEST_SHEET};
-use compare::street::{Street, Times, MAX_SIGNALS};
+use compare::street::{link_time, Street, Times, MAX_SIGNALS};
 use std::collections::BTreeSet;
 
 fn typists() -> (Page, Vec<Sample>) {
@@ -67,12 +69,48 @@ fn examples() -> Vec<(Vec<u8>, String)> {
 #[test]
 fn the_examples_come_out() {
     let examples = examples();
-    assert_eq!(examples.len(), 18);
+    assert_eq!(examples.len(), 22);
     let bytes = input(&examples.iter().map(|(case, _)| case).collect::<Vec<_>>());
     let expected: String = examples.iter().map(|(_, reply)| format!("{reply}\n")).collect();
     assert_eq!(output(&bytes), expected, "the model");
     let answer = Program::cases().answer(&bytes).unwrap_or_else(|fault| panic!("{fault}"));
     assert_eq!(String::from_utf8_lossy(&answer), expected, "cases");
+}
+
+/// How many ticks the way to the last signal takes outbound.
+fn whole_way(street: &Street) -> i64 {
+    Times::of(street).t(0, street.signals() - 1)
+}
+
+#[test]
+fn the_examples_show_how_times_are_rounded() {
+    let page = Page::open("EXAMPLES.md");
+    let names = ["row-rounding-49-mm.txt", "row-9-rounded-times.txt", "row-rounding-two-links.txt"];
+    let [short, half, two] = names.map(street);
+    let common = |street: &Street| (street.cycle, street.reds[0], street.outbound[0], street.inbound[0]);
+    assert!(common(&short) == common(&half) && common(&two) == common(&half));
+    let [a, b, c] = [&short, &half, &two].map(whole_way);
+    let (sum, lengths) = (2 * half.distances[1], [short.distances[1], half.distances[1], two.distances[1]]);
+    assert_eq!((sum, lengths), (two.distances[2], [49, 50, 50]));
+    page.says(&format!("The link of 49 mm takes {a} ticks, row 9's of 50 mm takes {b}, and two links"));
+    let rounded_sum = link_time(sum, two.outbound[0]).0;
+    page.says(&format!("links of 50 mm take {c}, since each is rounded by itself; rounded as a sum they would take {rounded_sum}."));
+}
+
+#[test]
+fn the_examples_show_a_band_that_is_measured_elsewhere() {
+    let street = street("row-elsewhere-another-stretch.txt");
+    let plan = asked(&street, Ask::Outbound(16));
+    let ([_, band], (_, found)) = (named(&street, &plan), measure(&street, &plan.offsets));
+    let starts = (band.start + 2 * band.lags[1]).rem_euclid(street.halves());
+    assert!(found.width == band.width && found.start != starts);
+    let Band { width, start } = found;
+    let (names, finds) = (
+        format!("starts at instant {starts} at signal 2;"),
+        format!("the stretch of {width} halves that starts at {start}."),
+    );
+    Page::open("EXAMPLES.md")
+        .says(&format!("the inbound band that the plan names {names} `measure` finds {finds}"));
 }
 
 #[test]
