@@ -1,10 +1,10 @@
 -- What the reader answers: the numbers of a street, or a refusal (01, 'The street sheet' and 'Codes, in order of checking').
 use Prim.Native.Nat.{ℕ}
 use mathlib.Core.Path.{_≡_}
-use mathlib.Core.List.{List, _++_}
+use mathlib.Core.List.{List, [], _++_}
 use lib.ListN.{length, drop, replicate}
 use Rattle.road.specs.Limits.{maxSignals}
-use Rattle.street.specs.Lists.{Lists, signals}
+use Rattle.street.specs.Lists.{Lists, signals, typed}
 use Rattle.street.specs.Checks.{refuse}
 use Rattle.street.specs.declared.Code.{Code}
 use Rattle.street.specs.declared.Verdict.the-variants.{Passed}
@@ -30,15 +30,7 @@ sheetOf l =
 
 -- a sheet of which every number is 0
 abbrev pub noSheet : Sheet
-noSheet =
-    record {
-      signals = 0;
-      cycle = 0;
-      reds = replicate maxSignals 0;
-      distances = replicate maxSignals 0;
-      outbound = replicate maxSignals 0;
-      inbound = replicate maxSignals 0;
-    }
+noSheet = sheetOf (typed 0 [] [] [] [])
 
 -- a street that was read has its numbers
 abbrev pub passing : Lists → Reading
