@@ -126,15 +126,12 @@ fn a_request_of_another_form_is_bad() {
     expect(&bad.map(|requests| (requests, STREET_A, "bad request")));
 }
 
-/// Whether the named bands of a plan meet no red, and the measured widths are as great as the rules say.
+/// Whether the named bands of a plan meet no red, and the measured widths are the reported ones.
 fn as_promised(street: &Street, plan: &Plan, (out, back): (i64, i64)) -> bool {
     let open = |band: &Named| {
         (band.start..band.start + band.width).all(|at| clear(street, &plan.offsets, &band.lags, at))
     };
-    let wide = out >= plan.outbound && back >= plan.inbound;
-    let both_open = plan.outbound.min(plan.inbound) > 0;
-    let as_measured = (out, back) == (plan.outbound, plan.inbound);
-    named(street, plan).iter().all(open) && wide && (!both_open || as_measured)
+    named(street, plan).iter().all(open) && (out, back) == (plan.outbound, plan.inbound)
 }
 
 #[test]
@@ -153,6 +150,8 @@ fn a_moved_plan_has_the_bands_that_it_names() {
     {
         assert!(as_promised(street, plan, widths), "{ask} with {widths:?} and {plan:?} on {street:?}");
     }
+    let one_sided = plans.iter().filter(|plan| plan.outbound.min(plan.inbound) == 0).count();
+    assert!(one_sided > 50, "{one_sided} plans leave a direction 0: this run shows too little");
 }
 
 /// A small street with every width that can be asked of it, both ways.
