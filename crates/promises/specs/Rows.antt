@@ -99,8 +99,8 @@ unfoldable pub rounding-rows : List Row
 rounding-rows =
     row (pair 10 5 49) Equal (plan 1 (pos 10) 10 10 1 5 15) (0 ∷ 0 ∷ 7 ∷ [])
     ∷ row
-        (record { cycle = 10; reds = 5 ∷ 5 ∷ 5 ∷ []; distances = 0 ∷ 50 ∷ 100 ∷ []; outbound = 1000 ∷ 1000 ∷ []; inbound = 1000 ∷ 1000 ∷ [] })
-        Equal (plan 1 (pos 6) 6 6 2 5 15) (0 ∷ 0 ∷ 0 ∷ [])
+    (record { cycle = 10; reds = 5 ∷ 5 ∷ 5 ∷ []; distances = 0 ∷ 50 ∷ 100 ∷ []; outbound = 1000 ∷ 1000 ∷ []; inbound = 1000 ∷ 1000 ∷ [] })
+    Equal (plan 1 (pos 6) 6 6 2 5 15) (0 ∷ 0 ∷ 0 ∷ [])
     ∷ []
 
 -- rows 6 to 8 and 10

@@ -111,41 +111,41 @@ module _ (s : Timed) (fit : Fit s) (rising : Rising s) (f δ : ℕ → ℕ) (low
   module _
       (v v′ m m′ : ℕ) (none : 1 ≤ v → m ≡ 0) (none′ : 1 ≤ v′ → m′ ≡ 0) (all : v + v′ + 2 * halves s ≡ 2 * B⁺ s + (m + m′))
       (room : (j : ℕ) → j < s .signals → Room s v m j (δ j) (δ (reference s))) (room′ : (j : ℕ) → j < s .signals → Room s v′ m′ j (δ (reference s)) (δ j))
-      where
-    first : Named (outboundWay s f) (reference s) (redEnd s (reference s) (f (reference s))) 0 v
-    first =
-        record {
-          passes =
-              λ x from some.
-              let c = room (reference s) (reference-first s fit .below) in
-              let full = none some in
-              record { most = omega (arith, c .before, c .after); each = λ j l r. omega (arith, out-spans-from x v m from room .each j l r) };
-        }
+    where
+      first : Named (outboundWay s f) (reference s) (redEnd s (reference s) (f (reference s))) 0 v
+      first =
+          record {
+            passes =
+                λ x from some.
+                let c = room (reference s) (reference-first s fit .below) in
+                let full = none some in
+                record { most = omega (arith, c .before, c .after); each = λ j l r. omega (arith, out-spans-from x v m from room .each j l r) };
+          }
 
-    last : Named (inboundWay s f) (reference s) (redStart s (reference s) (f (reference s))) v′ v′
-    last =
-        record {
-          passes =
-              λ y to some.
-              let c = room′ (reference s) (reference-first s fit .below) in
-              let full = none′ some in
-              let there : Meets (inboundWay s f) (reference s) (redStart s (reference s) (f (reference s)) + m′) v′ y = record { p = to .p; q = to .q; eq = omega (arith, to .eq) } in
-              record { most = omega (arith, c .before, c .after); each = λ j l r. omega (arith, back-spans-to y v′ m′ there room′ .each j l r) };
-        }
+      last : Named (inboundWay s f) (reference s) (redStart s (reference s) (f (reference s))) v′ v′
+      last =
+          record {
+            passes =
+                λ y to some.
+                let c = room′ (reference s) (reference-first s fit .below) in
+                let full = none′ some in
+                let there : Meets (inboundWay s f) (reference s) (redStart s (reference s) (f (reference s)) + m′) v′ y = record { p = to .p; q = to .q; eq = omega (arith, to .eq) } in
+                record { most = omega (arith, c .before, c .after); each = λ j l r. omega (arith, back-spans-to y v′ m′ there room′ .each j l r) };
+          }
 
-    pub bands : Bands s f v v′
-    bands =
-        let c = reference s in
-        let (x, lx, from) = meets (outboundWay s f) c (redEnd s c (f c)) 0 around in
-        let (y, ly, to) = meets (inboundWay s f) c (redStart s c (f c) + m′) v′ around in
-        record {
-          m = m;
-          m′ = m′;
-          x = x;
-          y = y;
-          out = first;
-          back = last;
-          out-spans = out-spans-from x v m from room;
-          back-spans = back-spans-to y v′ m′ to room′;
-          all = all;
-        }
+      pub bands : Bands s f v v′
+      bands =
+          let c = reference s in
+          let (x, lx, from) = meets (outboundWay s f) c (redEnd s c (f c)) 0 around in
+          let (y, ly, to) = meets (inboundWay s f) c (redStart s c (f c) + m′) v′ around in
+          record {
+            m = m;
+            m′ = m′;
+            x = x;
+            y = y;
+            out = first;
+            back = last;
+            out-spans = out-spans-from x v m from room;
+            back-spans = back-spans-to y v′ m′ to room′;
+            all = all;
+          }
