@@ -1,0 +1,50 @@
+-- Moving width worked out, on the streets of the method's examples: B is 5 and g is 8 at three signals, and at two B is -1 and g is 2. Assumes nothing.
+use Prim.Native.Nat.{ℕ}
+use mathlib.Core.Path.{_≡_, refl}
+use mathlib.Core.Bool.{true, false}
+use mathlib.Core.List.{[], _∷_, map}
+use lib.IntN.{pos}
+use Rattle.circle.specs.Over.{firstBelow, leastBelow, greatestBelow, listBelow}
+use Rattle.circle.specs.Method.{u, pairWidth, b, B, reference, phase, offset}
+use Rattle.circle.specs.Moved.{g, inRange, chosen, outboundLowering, inboundLowering, lowered, otherWidth, platoonWidth}
+use Rattle.circle.proofs.Examples.Method.{three, two}
+
+widest : g three ∷ g (two 2 2) ∷ [] ≡ pos 8 ∷ pos 2 ∷ []
+unfolding g leastBelow
+widest = refl
+
+-- from B to g, and from 1 to g where B is below 1
+range : map (inRange three) (4 ∷ 5 ∷ 8 ∷ 9 ∷ []) ≡ false ∷ true ∷ true ∷ false ∷ []
+unfolding inRange g B greatestBelow b leastBelow pairWidth u
+range = refl
+
+range-from-1 : map (inRange (two 2 2)) (0 ∷ 1 ∷ 2 ∷ 3 ∷ []) ≡ false ∷ true ∷ true ∷ false ∷ []
+unfolding inRange g B greatestBelow b leastBelow pairWidth u
+range-from-1 = refl
+
+us : listBelow 3 (chosen three) ≡ 14 ∷ 20 ∷ 17 ∷ []
+unfolding listBelow chosen phase reference firstBelow B greatestBelow b leastBelow pairWidth u
+us = refl
+
+-- by how much each offset of 11, 0 and 2 is lowered for a width of 8, outbound and inbound
+outbound : listBelow 3 (outboundLowering three 8) ≡ 0 ∷ 3 ∷ 0 ∷ []
+unfolding listBelow outboundLowering chosen phase reference firstBelow B greatestBelow b leastBelow pairWidth u
+outbound = refl
+
+inbound : listBelow 3 (inboundLowering three 8) ≡ 2 ∷ 0 ∷ 3 ∷ []
+unfolding listBelow inboundLowering chosen phase reference firstBelow B greatestBelow b leastBelow pairWidth u
+inbound = refl
+
+moved : listBelow 3 (lowered three (outboundLowering three 8)) ≡ 11 ∷ 17 ∷ 2 ∷ []
+unfolding listBelow lowered offset outboundLowering chosen phase reference firstBelow B greatestBelow b leastBelow pairWidth u
+moved = refl
+
+-- beside 8 of 2B = 10 there is 2 left, beside 11 nothing, and nothing beside any width where B is below 0
+others : otherWidth three 8 ∷ otherWidth three 11 ∷ otherWidth (two 2 2) 1 ∷ [] ≡ 2 ∷ 0 ∷ 0 ∷ []
+unfolding otherWidth B greatestBelow b leastBelow pairWidth u
+others = refl
+
+-- platoons of 4 and 3 within 10: 10 · 4/7 = 5.7; of 9 and 1: 9, but at most 8. Above 10, of 7 and 5: 7; of 20 and 10: at most 8; and where 1 would leave the other side nothing, g
+platoons : platoonWidth three 4 7 ∷ platoonWidth three 9 10 ∷ platoonWidth three 7 12 ∷ platoonWidth three 20 30 ∷ platoonWidth (two 2 2) 1 1 ∷ [] ≡ 5 ∷ 8 ∷ 7 ∷ 8 ∷ 2 ∷ []
+unfolding platoonWidth otherWidth g B greatestBelow b leastBelow pairWidth u
+platoons = refl
