@@ -1,2 +1,3 @@
 pub mod OffsetLaws
 pub mod MovedLaws
+pub mod Examples

@@ -1,3 +1,4 @@
 pub mod TimeLaws
 pub mod Nearest
 pub mod Paved
+pub mod Examples

@@ -1,4 +1,4 @@
--- Rounding to the nearest tick, and what m counts. In a unit of N to the half in which a link's exact time is whole, its rounded time is at most N away from the exact one: half a
+-- Rounding to the nearest tick, and what m counts. A link's time is the nearest number of ticks, and no other number is. In a unit of N to the half in which a link's exact time is whole, its rounded time is at most N away from the exact one: half a
 -- tick. Where 10d/v is whole the two are equal. A link that either direction rounded is marked, so each direction's two times are apart by N at most where the mark counts 1, and
 -- by nothing where it counts 0. Assumes nothing.
 use Prim.Native.Nat.{ℕ, _+_, _-_, _*_, _/_, _%_, _≤_, _<_}
@@ -11,11 +11,23 @@ use native.Mathlib.Nat.{mod-lt, mod-add-div', mul-le-mul-left, le-of-mul-le-mul-
 use lib.ListN.{getD}
 use borrow.Author.Tests.{ne-eqb}
 use Rattle.circle.specs.Over.{_or_}
-use Rattle.road.specs.Times.{ticks, whole, linkLength, linkTicks, roundedLink}
+use Rattle.road.specs.Times.{ticks, Nearest, whole, linkLength, linkTicks, roundedLink}
 
 -- how far two numbers are apart
 abbrev pub apart : ℕ → ℕ → ℕ
 apart a b = a - b + (b - a)
+
+-- a link's time is the nearest number of ticks
+pub nearest : (d v : ℕ) → 0 < v → Nearest d v (ticks d v)
+nearest d v some =
+    let two : 0 < 2 * v = omega arith in
+    let less = mod-lt (20 * d + v) two in
+    let split = mod-add-div' (20 * d + v) (2 * v) in
+    record { least = omega arith; below = omega arith }
+
+-- and there is just one such number
+pub nearest-only : (d v t : ℕ) → Nearest d v t → t ≡ ticks d v
+nearest-only d v t near = sym (div-eq-of-lt-le (2 * v) (omega (arith, near .least)) (omega (arith, near .below)))
 
 -- a rounded time T and an exact one X, with p for 20d: twice T in units, and X, are at most N apart
 near : (N p v T X : ℕ) → 0 < v → X * v ≡ p * N → T * (2 * v) ≤ p + v → p ≤ T * (2 * v) + v → (2 * (N * T) ≤ X + N) × (X ≤ 2 * (N * T) + N)
@@ -29,7 +41,7 @@ near N p v T X some e low high =
 -- and equal where 10d/v is whole
 even : (N d v q X : ℕ) → 0 < v → X * v ≡ 20 * d * N → q * v ≡ 10 * d → X ≡ 2 * (N * ticks d v)
 even N d v q X some e whole =
-    let t : ticks d v ≡ q = div-eq-of-lt-le (2 * v) (omega arith) (omega arith) in
+    let t = nearest-only d v q (record { least = omega arith; below = omega arith }) in
     let f : 20 * d * N ≡ 2 * (N * (q * v)) = omega (arith, ap (λ (z : ℕ). N * z) whole) in
     let g : X * v ≡ 2 * (N * q) * v = omega arith in
     eq-of-mul-eq-mul-right v some X (2 * (N * q)) g ∙ ap (λ (z : ℕ). 2 * (N * z)) (omega (arith, t))
@@ -46,10 +58,8 @@ link N d v mark some fine marked = go (ℕ-discrete (10 * d % v) 0)
         let same = even N d v (10 * d / v) (20 * d * N / v) some times (omega (arith, mod-add-div' (10 * d) v)) in
         omega arith
     go (no e) =
-        let two : 0 < 2 * v = omega arith in
-        let less = mod-lt (20 * d + v) two in
-        let split = mod-add-div' (20 * d + v) (2 * v) in
-        let (low, high) = near N (20 * d) v (ticks d v) (20 * d * N / v) some times (omega arith) (omega arith) in
+        let closest = nearest d v some in
+        let (low, high) = near N (20 * d) v (ticks d v) (20 * d * N / v) some times (omega (arith, closest .least)) (omega (arith, closest .below)) in
         let one : N * cond mark 1 0 ≡ N * 1 = ap (λ t. N * cond t 1 0) (marked (ne-eqb (10 * d % v) 0 e)) in
         omega arith
 

@@ -10,6 +10,11 @@ use Rattle.circle.specs.Over.{_or_, sumBelow, countBelow}
 abbrev pub ticks : ℕ → ℕ → ℕ
 ticks d v = (20 * d + v) / (2 * v)
 
+-- t is the whole number nearest to 10d/v, one half going up: 10d/v is t - 1/2 or more and less than t + 1/2, here with 1/2 added and 2v times as large
+pub record Nearest (d v t : ℕ) : Type 0 where
+  pub least : 2 * v * t ≤ 20 * d + v
+  pub below : 20 * d + v < 2 * v * t + 2 * v
+
 -- whether 10d/v is a whole number of ticks
 abbrev pub whole : ℕ → ℕ → Bool
 whole d v = eqb (10 * d % v) 0

@@ -1,3 +1,4 @@
 pub mod Pairs
 pub mod Leading
 pub mod Unique
+pub mod Examples

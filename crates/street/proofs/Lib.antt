@@ -3,3 +3,4 @@ pub mod Passed
 pub mod Sound
 pub mod Unique
 pub mod Order
+pub mod Examples

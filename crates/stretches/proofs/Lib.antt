@@ -1,1 +1,2 @@
 pub mod SearchLaws
+pub mod Examples

@@ -1,1 +1,2 @@
 pub mod WidthLaws
+pub mod Examples

@@ -3,7 +3,7 @@ use mathlib.Core.Path.{_≡_, refl}
 use mathlib.Core.Bool.{true, false}
 use mathlib.Core.List.{[], _∷_}
 use lib.ListN.{getD}
-use Rattle.circle.specs.Over.{firstBelow, listBelow}
+use Rattle.circle.specs.Over.{firstBelow, sumBelow, countBelow, listBelow}
 use Rattle.circle.specs.Method.{u, pairWidth, phase, offset, redEnd, redStart}
 use Rattle.circle.specs.Bands.{Way, allBelow, greatestUpTo, clear, stretch, width, bandStart, outboundWay, inboundWay}
 use Rattle.circle.proofs.Examples.Method.{three}
@@ -24,9 +24,9 @@ instants : listBelow 10 (clear way) ≡ true ∷ false ∷ false ∷ true ∷ tr
 unfolding listBelow clear allBelow
 instants = refl
 
--- two stretches, 3 to 5 and 7 round to 1: the band is the longer one, of 4 from 7 on, and not the 6 clear instants
-band : width way ∷ bandStart way ∷ [] ≡ 4 ∷ 7 ∷ []
-unfolding width bandStart greatestUpTo stretch clear allBelow firstBelow
+-- six departures are clear, in two stretches, 3 to 5 and 7 round to 1: the band is the longer one, of 4 from 7 on
+band : countBelow 10 (clear way) ∷ width way ∷ bandStart way ∷ [] ≡ 6 ∷ 4 ∷ 7 ∷ []
+unfolding sumBelow width bandStart greatestUpTo stretch clear allBelow firstBelow
 band = refl
 
 -- a red of 6 ticks around the instant 17: it starts at 11 and ends, past the cycle's end, at 3

@@ -1,0 +1,23 @@
+-- The search's own numbers worked out, on the three signals of the method's examples: their pairs from the second are -4 and 6, 10 and 0, 5 and -5. Assumes nothing.
+use mathlib.Core.Path.{_≡_, refl}
+use mathlib.Core.List.{[], _∷_}
+use lib.IntN.{pos, negsuc}
+use Rattle.circle.specs.Over.{listBelow}
+use Rattle.circle.proofs.Examples.Method.{three}
+use Rattle.search.specs.Search.{signedOf, place, pairOf, wider}
+
+-- reds of 4, 5 and 6 less times of 0, 5 and 9, round a cycle of 20 halves
+places : listBelow 3 (place three) ≡ 4 ∷ 0 ∷ 17 ∷ []
+unfolding listBelow
+places = refl
+
+-- from place 0 to each place: the widths under both phases, raised by 20
+row : pairOf 10 0 4 4 ∷ pairOf 10 0 0 5 ∷ pairOf 10 0 17 6 ∷ [] ≡ (16 ∷ 26 ∷ []) ∷ (30 ∷ 20 ∷ []) ∷ (25 ∷ 15 ∷ []) ∷ []
+row = refl
+
+larger : listBelow 3 (wider ((16 ∷ 26 ∷ []) ∷ (30 ∷ 20 ∷ []) ∷ (25 ∷ 15 ∷ []) ∷ [])) ≡ 26 ∷ 30 ∷ 25 ∷ []
+unfolding listBelow
+larger = refl
+
+signed : signedOf three 25 ∷ signedOf three 16 ∷ [] ≡ pos 5 ∷ negsuc 3 ∷ []
+signed = refl

@@ -1,0 +1,33 @@
+-- Bands by their numbers, worked out. Assumes nothing.
+use Prim.Native.Nat.{ℕ}
+use mathlib.Core.Path.{_≡_, refl}
+use mathlib.Core.List.{[], _∷_}
+use Rattle.circle.specs.Over.{firstBelow}
+use Rattle.circle.specs.Bands.{Way, allBelow, greatestUpTo, clear, stretch, width, bandStart}
+use Rattle.stretches.specs.Stretches.{bandOf, seenBy, leftBy, longestFrom, widerOf}
+use Rattle.stretches.specs.declared.Band.{Band}
+
+-- a width and its start
+abbrev band : ℕ → ℕ → Band
+band width start = record { width = width; start = start }
+
+-- on a cycle of 20 halves a red of 4 ticks that ends at 3 leaves 12 from 3 on, 8 from 7 on and 1 from 14 on; it starts at 15, and until 3 it leaves nothing
+lefts : leftBy 20 3 3 4 ∷ leftBy 20 7 3 4 ∷ leftBy 20 14 3 4 ∷ leftBy 20 15 3 4 ∷ leftBy 20 2 3 4 ∷ [] ≡ 12 ∷ 8 ∷ 1 ∷ 0 ∷ 0 ∷ []
+lefts = refl
+
+-- the wider, and of two as wide the one that starts sooner, in either order
+widers : widerOf (band 4 7) (band 5 9) ∷ widerOf (band 5 9) (band 4 7) ∷ widerOf (band 4 7) (band 4 3) ∷ widerOf (band 4 3) (band 4 7) ∷ [] ≡ band 5 9 ∷ band 5 9 ∷ band 4 3 ∷ band 4 3 ∷ []
+unfolding widerOf
+widers = refl
+
+-- two signals on a cycle of 10 halves, with reds of 1 tick that end at 3 and at 7: 2 from 3 on, and 4 from 7 on
+abbrev seen : Way
+seen = seenBy 10 2 (λ j. 1) (3 ∷ 7 ∷ [])
+
+longest : longestFrom seen 3 ∷ longestFrom seen 7 ∷ longestFrom seen 1 ∷ [] ≡ 2 ∷ 4 ∷ 0 ∷ []
+unfolding greatestUpTo allBelow stretch clear
+longest = refl
+
+widest : bandOf seen ≡ band 4 7
+unfolding width bandStart greatestUpTo stretch clear allBelow firstBelow
+widest = refl

@@ -1,0 +1,43 @@
+-- Requests worked out, on the streets of the method's examples: B is 5 and g is 8 at three signals. Assumes nothing.
+use Prim.Native.Nat.{ℕ}
+use mathlib.Core.Path.{_≡_, refl}
+use mathlib.Core.List.{List, [], _∷_, map}
+use Rattle.circle.specs.Over.{leastBelow, greatestBelow}
+use Rattle.circle.specs.Method.{u, pairWidth, b, B, equalWidth}
+use Rattle.circle.specs.Moved.{g, inRange, otherWidth, platoonWidth}
+use Rattle.circle.proofs.Examples.Method.{three}
+use Rattle.street.specs.Codes.{codeOf, placeOf}
+use Rattle.widths.specs.Moved.{platoonShift, shiftOf, outboundWidth, inboundWidth}
+use Rattle.widths.specs.Checks.{platoonCheck, widthCheck, requestCheck}
+use Rattle.widths.specs.declared.Request.{Request}
+use Rattle.widths.specs.declared.Request.the-variants as request
+use Rattle.widths.specs.declared.Shift.{Shift}
+use Rattle.widths.specs.declared.Shift.the-variants.{Unmoved, Outbound, Inbound}
+
+-- a width from 5 to 8 passes
+ranges : map (λ (r : Request). codeOf (requestCheck r three)) (request.Equal ∷ request.Outbound 4 ∷ request.Outbound 5 ∷ request.Inbound 8 ∷ request.Inbound 9 ∷ []) ≡ 0 ∷ 9 ∷ 0 ∷ 0 ∷ 9 ∷ []
+unfolding widthCheck inRange g B greatestBelow b leastBelow pairWidth u
+ranges = refl
+
+-- a platoon of 100,000 passes, and 1 more does not; the outbound one is judged first
+lengths : placeOf (platoonCheck 100000 100000) ∷ placeOf (platoonCheck 100001 100001) ∷ placeOf (platoonCheck 0 100001) ∷ [] ≡ 0 ∷ 1 ∷ 2 ∷ []
+unfolding platoonCheck
+lengths = refl
+
+-- a width is taken as it is
+asked : map (λ (r : Request). shiftOf r three) (request.Equal ∷ request.Outbound 6 ∷ request.Inbound 7 ∷ []) ≡ Unmoved ∷ Outbound 6 ∷ Inbound 7 ∷ []
+asked = refl
+
+-- platoons: equal ones move nothing; the longer has 2B · 4/7 = 5 5/7, rounded down; above 2B it has its length, at most g
+favoured : map (λ (r : Request). shiftOf r three) (request.Platoons 4 4 ∷ request.Platoons 4 3 ∷ request.Platoons 3 4 ∷ request.Platoons 5 7 ∷ request.Platoons 20 10 ∷ []) ≡ Unmoved ∷ Outbound 5 ∷ Inbound 5 ∷ Inbound 7 ∷ Outbound 8 ∷ []
+unfolding platoonShift platoonWidth otherWidth g B greatestBelow b leastBelow pairWidth u
+favoured = refl
+
+-- what each direction then has: B, or the width, or what it leaves of 2B
+out : map (λ (k : Shift). outboundWidth k three) (Unmoved ∷ Outbound 8 ∷ Inbound 7 ∷ []) ≡ 5 ∷ 8 ∷ 3 ∷ []
+unfolding equalWidth otherWidth B greatestBelow b leastBelow pairWidth u
+out = refl
+
+back : map (λ (k : Shift). inboundWidth k three) (Unmoved ∷ Outbound 8 ∷ Inbound 7 ∷ []) ≡ 5 ∷ 2 ∷ 7 ∷ []
+unfolding equalWidth otherWidth B greatestBelow b leastBelow pairWidth u
+back = refl
