@@ -6,17 +6,17 @@ use mathlib.Core.List.{List, [], _∷_, map}
 use native.Mathlib.Omega.{arith}
 use lib.ListN.{getD}
 use Rattle.circle.specs.Over.{sumBelow, firstBelow}
-use Rattle.circle.specs.Method.{Timed, redStart}
+use Rattle.circle.specs.Method.{redStart}
 use Rattle.circle.specs.Bands.{Way, allBelow, greatestUpTo, clear, stretch, width, bandStart, outboundWay, inboundWay}
 use Rattle.circle.proofs.Numbers.Over.{minBelow}
 use Rattle.circle.proofs.Stretches.{Proper, longest-least, from, Best, IsBand, best-none, best-wider, best-stays, best-band}
 use Rattle.street.specs.Lists.{Lists, typed}
-use Rattle.street.specs.Codes.{placeOf}
 use Rattle.street.specs.Checks.{countCheck, cycleCheck, redCheck, distanceCheck, speedCheck}
 use Rattle.street.specs.Streets.{timed}
 use Rattle.street.specs.declared.Verdict.the-variants.{Passed}
 use Rattle.stretches.specs.declared.Band.{Band}
 use Rattle.bands.specs.Measure.{BandNumbers, bandNumbers, sizeCheck, offsetCheck, measureChecks, measuredOf, foundOr, measurementOf}
+pub mod Ends
 
 -- a width and its start
 abbrev band : ℕ → ℕ → Band
@@ -51,26 +51,6 @@ rows =
 answers : map (λ (r : Row). bandNumbers (measurementOf (r .lists) (r .offsets))) rows ≡ map (λ (r : Row). r .numbers) rows
 unfolding rows measureChecks countCheck sizeCheck cycleCheck redCheck distanceCheck speedCheck offsetCheck firstBelow sumBelow width bandStart greatestUpTo allBelow stretch clear redStart
 answers = refl
-
--- on a cycle of 10 ticks an offset of 19 halves passes and one of 20 does not, by its signal's number
-offset-places : placeOf (offsetCheck 10 (0 ∷ 19 ∷ [])) ∷ placeOf (offsetCheck 10 (0 ∷ 20 ∷ [])) ∷ [] ≡ 0 ∷ 2 ∷ []
-unfolding offsetCheck firstBelow
-offset-places = refl
-
--- two signals on a cycle of 5 ticks, with times of 1 outbound and 2 inbound: at 0 and 2 the outbound band is the wider one
-abbrev unlike : Timed
-unlike =
-    record {
-      cycle = 5;
-      signals = 2;
-      red = λ j. 1;
-      outbound = λ j. j;
-      inbound = λ j. 2 * j;
-    }
-
-unlike-widths : measuredOf unlike (0 ∷ 2 ∷ []) .outbound .width ∷ measuredOf unlike (0 ∷ 2 ∷ []) .inbound .width ∷ [] ≡ 8 ∷ 4 ∷ []
-unfolding width greatestUpTo allBelow stretch clear redStart
-unlike-widths = refl
 
 -- row 14: street A at 0, 10
 abbrev streetA : Lists

@@ -3,6 +3,7 @@ use mathlib.Core.Path.{_≡_, refl}
 use mathlib.Core.List.{[], _∷_}
 use lib.IntN.{pos, negsuc}
 use Rattle.decimal.specs.Decimal.{digitsUpTo, decimal, signedDecimal}
+use Rattle.decimal.specs.Writing.{overwritten}
 
 nothing : decimal 0 ≡ 48 ∷ []
 unfolding digitsUpTo
@@ -33,3 +34,7 @@ minus-sixty = refl
 least : signedDecimal (negsuc 2147483647) ≡ 45 ∷ 50 ∷ 49 ∷ 52 ∷ 55 ∷ 52 ∷ 56 ∷ 51 ∷ 54 ∷ 52 ∷ 56 ∷ []
 unfolding digitsUpTo
 least = refl
+
+-- two bytes written from the second place on: the first and the fourth stay
+over : overwritten 1 (7 ∷ 8 ∷ []) (1 ∷ 2 ∷ 3 ∷ 4 ∷ []) ≡ 1 ∷ 7 ∷ 8 ∷ 4 ∷ []
+over = refl

@@ -1,7 +1,6 @@
 -- Requests worked out, on the streets of the method's examples: B is 5 and g is 8 at three signals. Assumes nothing.
-use Prim.Native.Nat.{ℕ}
 use mathlib.Core.Path.{_≡_, refl}
-use mathlib.Core.List.{List, [], _∷_, map}
+use mathlib.Core.List.{[], _∷_, map}
 use Rattle.circle.specs.Over.{leastBelow, greatestBelow}
 use Rattle.circle.specs.Method.{u, pairWidth, b, B, equalWidth}
 use Rattle.circle.specs.Moved.{g, inRange, otherWidth, platoonWidth}

@@ -5,7 +5,7 @@ use mathlib.Core.List.{[], _∷_}
 use lib.IntN.{pos, negsuc}
 use lib.ListN.{getD}
 use Rattle.circle.specs.Over.{firstBelow, leastBelow, greatestBelow, listBelow}
-use Rattle.circle.specs.Method.{Timed, t, t′, u, pairWidth, b, B, reference, phase, offset, equalWidth}
+use Rattle.circle.specs.Method.{Timed, t, t′, u, pairWidth, b, B, reference, phase, offset, equalWidth, inUnits}
 
 -- three signals on a cycle of 10 ticks, 20 halves
 abbrev pub three : Timed
@@ -71,3 +71,8 @@ phases = refl
 offsets : listBelow 3 (offset three 1) ≡ 11 ∷ 0 ∷ 2 ∷ []
 unfolding listBelow offset phase pairWidth u
 offsets = refl
+
+-- counted in thirds everything is three times as long
+thirds : listBelow 3 (b (inUnits 3 three)) ≡ pos 3 ∷ pos 15 ∷ pos 9 ∷ []
+unfolding listBelow b leastBelow pairWidth u
+thirds = refl

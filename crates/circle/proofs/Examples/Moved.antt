@@ -1,5 +1,4 @@
 -- Moving width worked out, on the streets of the method's examples: B is 5 and g is 8 at three signals, and at two B is -1 and g is 2. Assumes nothing.
-use Prim.Native.Nat.{ℕ}
 use mathlib.Core.Path.{_≡_, refl}
 use mathlib.Core.Bool.{true, false}
 use mathlib.Core.List.{[], _∷_, map}
