@@ -3,7 +3,7 @@ use mathlib.Core.Path.{_≡_, refl}
 use mathlib.Core.List.{[], _∷_}
 use lib.IntN.{pos, negsuc}
 use Rattle.decimal.specs.Decimal.{digitsUpTo, decimal, signedDecimal}
-use Rattle.decimal.specs.Writing.{overwritten}
+use Rattle.decimal.specs.Steps.{overwritten}
 
 nothing : decimal 0 ≡ 48 ∷ []
 unfolding digitsUpTo

@@ -4,14 +4,14 @@ use mathlib.Core.List.{[], _∷_}
 use lib.IntN.{pos, negsuc}
 use Rattle.circle.specs.Over.{listBelow}
 use Rattle.circle.proofs.Examples.Method.{three}
-use Rattle.search.specs.Search.{signedOf, place, pairOf, wider}
+use Rattle.search.specs.Steps.{signedOf, anchor, pairOf, wider}
 
 -- reds of 4, 5 and 6 less times of 0, 5 and 9, round a cycle of 20 halves
-places : listBelow 3 (place three) ≡ 4 ∷ 0 ∷ 17 ∷ []
+anchors : listBelow 3 (anchor three) ≡ 4 ∷ 0 ∷ 17 ∷ []
 unfolding listBelow
-places = refl
+anchors = refl
 
--- from place 0 to each place: the widths under both phases, raised by 20
+-- from anchor 0 to each anchor: the widths under both phases, raised by 20
 row : pairOf 10 0 4 4 ∷ pairOf 10 0 0 5 ∷ pairOf 10 0 17 6 ∷ [] ≡ (16 ∷ 26 ∷ []) ∷ (30 ∷ 20 ∷ []) ∷ (25 ∷ 15 ∷ []) ∷ []
 row = refl
 

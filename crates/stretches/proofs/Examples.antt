@@ -4,7 +4,8 @@ use mathlib.Core.Path.{_≡_, refl}
 use mathlib.Core.List.{[], _∷_}
 use Rattle.circle.specs.Over.{firstBelow}
 use Rattle.circle.specs.Bands.{Way, allBelow, greatestUpTo, clear, stretch, width, bandStart}
-use Rattle.stretches.specs.Stretches.{bandOf, seenBy, leftBy, longestFrom, widerOf}
+use Rattle.stretches.specs.Stretches.{bandOf}
+use Rattle.stretches.specs.Steps.{seenBy, leftBy, longestFrom, widerOf}
 use Rattle.stretches.specs.declared.Band.{Band}
 
 -- a width and its start

@@ -8,7 +8,7 @@ use Rattle.circle.specs.Bands.{allBelow, greatestUpTo, clear, stretch, width}
 use Rattle.circle.proofs.Examples.Method.{three}
 use Rattle.street.specs.Codes.{placeOf}
 use Rattle.bands.specs.Measure.{offsetCheck, measuredOf}
-use Rattle.bands.specs.Search.{endOf}
+use Rattle.bands.specs.Steps.{endOf}
 use Rattle.bands.specs.declared.Direction.the-variants.{Outbound, Inbound}
 
 -- reds of 4, 5 and 6 ticks around 11, 0 and 2 end at 15, 5 and 8; less lags of 0, 4 and 10 outbound, and of 8, 2 and 0 inbound
