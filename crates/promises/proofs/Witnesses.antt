@@ -13,13 +13,13 @@ use Rattle.street.specs.Checks.{countCheck, roomCheck, cycleCheck, redCheck, di
 use Rattle.widths.specs.Checks.{widthCheck}
 use Rattle.bands.specs.Measure.{sizeCheck, offsetCheck, measureChecks}
 use Rattle.promises.specs.Exact.{Fine}
-use Rattle.promises.specs.Rows.{two, plan}
+use Rattle.promises.specs.Rows.{twoSignals, plan}
 use Rattle.promises.specs.Witnesses.{WiderByM, ShortByM, RedWithinM, MeasuredElsewhere}
 
 -- the one link between two signals
-pub fine-two : (cycle red red′ at at′ speed N : ℕ) → 0 < N → 20 * (at′ - at) * N % speed ≡ 0 → Fine (two cycle red red′ at at′ speed speed) N
-unfolding two
-fine-two cycle red red′ at at′ speed N some whole = record { some = some; outbound = each; inbound = each }
+pub fine-link : (cycle red red′ at at′ speed N : ℕ) → 0 < N → 20 * (at′ - at) * N % speed ≡ 0 → Fine (twoSignals cycle red red′ at at′ speed speed) N
+unfolding twoSignals
+fine-link cycle red red′ at at′ speed N some whole = record { some = some; outbound = each; inbound = each }
   where
     each : (k : ℕ) → k < 1 → 20 * (getD (at ∷ at′ ∷ []) (k + 1) 0 - getD (at ∷ at′ ∷ []) k 0) * N % getD (speed ∷ []) k 0 ≡ 0
     each k h =
@@ -27,18 +27,18 @@ fine-two cycle red red′ at at′ speed N some whole = record { some = some; ou
         ap (λ (i : ℕ). 20 * (getD (at ∷ at′ ∷ []) (i + 1) 0 - getD (at ∷ at′ ∷ []) i 0) * N % getD (speed ∷ []) i 0) e ∙ whole
 
 pub wider-by-m : WiderByM
-unfolding two firstBelow sumBelow leastBelow greatestBelow u pairWidth b B reference phase offset equalWidth redEnd redStart allBelow greatestUpTo clear stretch width countCheck roomCheck cycleCheck redCheck distanceCheck speedCheck planChecks
-wider-by-m = ((refl, refl, fine-two 10 6 4 3350 3800 3000 1 (omega arith) refl), refl, refl, refl)
+unfolding twoSignals firstBelow sumBelow leastBelow greatestBelow u pairWidth b B reference phase offset equalWidth redEnd redStart allBelow greatestUpTo clear stretch width countCheck roomCheck cycleCheck redCheck distanceCheck speedCheck planChecks
+wider-by-m = ((refl, refl, fine-link 10 6 4 3350 3800 3000 1 (omega arith) refl), refl, refl, refl)
 
 pub short-by-m : ShortByM
-unfolding two firstBelow sumBelow leastBelow greatestBelow u pairWidth b B reference phase offset equalWidth redEnd redStart allBelow greatestUpTo clear stretch width countCheck roomCheck cycleCheck redCheck distanceCheck speedCheck planChecks
-short-by-m = ((refl, refl, fine-two 10 1 1 0 450 1000 1 (omega arith) refl), refl, refl, refl)
+unfolding twoSignals firstBelow sumBelow leastBelow greatestBelow u pairWidth b B reference phase offset equalWidth redEnd redStart allBelow greatestUpTo clear stretch width countCheck roomCheck cycleCheck redCheck distanceCheck speedCheck planChecks
+short-by-m = ((refl, refl, fine-link 10 1 1 0 450 1000 1 (omega arith) refl), refl, refl, refl)
 
 pub red-within-m : RedWithinM
-unfolding two firstBelow sumBelow leastBelow greatestBelow u pairWidth b B reference phase offset equalWidth redEnd redStart allBelow greatestUpTo clear stretch width countCheck roomCheck cycleCheck redCheck distanceCheck speedCheck planChecks
+unfolding twoSignals firstBelow sumBelow leastBelow greatestBelow u pairWidth b B reference phase offset equalWidth redEnd redStart allBelow greatestUpTo clear stretch width countCheck roomCheck cycleCheck redCheck distanceCheck speedCheck planChecks
 red-within-m = (
-  (refl, refl, fine-two 10 1 1 0 450 1000 100 (omega arith) refl),
-  (refl, refl, fine-two 10 1 1 0 250 1000 100 (omega arith) refl),
+  (refl, refl, fine-link 10 1 1 0 450 1000 100 (omega arith) refl),
+  (refl, refl, fine-link 10 1 1 0 250 1000 100 (omega arith) refl),
   (refl, refl),
   (refl, refl),
   (refl, refl),
@@ -46,5 +46,5 @@ red-within-m = (
 )
 
 pub measured-elsewhere : MeasuredElsewhere
-unfolding two plan firstBelow sumBelow leastBelow greatestBelow listBelow u pairWidth b B reference phase offset equalWidth redEnd redStart allBelow greatestUpTo clear stretch width bandStart g inRange chosen outboundLowering lowered otherWidth countCheck roomCheck cycleCheck redCheck distanceCheck speedCheck planChecks widthCheck sizeCheck offsetCheck measureChecks
+unfolding twoSignals plan firstBelow sumBelow leastBelow greatestBelow listBelow u pairWidth b B reference phase offset equalWidth redEnd redStart allBelow greatestUpTo clear stretch width bandStart g inRange chosen outboundLowering lowered otherWidth countCheck roomCheck cycleCheck redCheck distanceCheck speedCheck planChecks widthCheck sizeCheck offsetCheck measureChecks
 measured-elsewhere = (refl, refl, refl, refl)

@@ -53,16 +53,16 @@ All [] = Unit
 All (row ∷ rows) = Holds row × All rows
 
 -- two signals with their reds and distances, and the outbound and the inbound speed on the link between them
-unfoldable pub two : ℕ → ℕ → ℕ → ℕ → ℕ → ℕ → ℕ → Lists
-two cycle red red′ at at′ out back =
+unfoldable pub twoSignals : ℕ → ℕ → ℕ → ℕ → ℕ → ℕ → ℕ → Lists
+twoSignals cycle red red′ at at′ out back =
     record { cycle = cycle; reds = red ∷ red′ ∷ []; distances = at ∷ at′ ∷ []; outbound = out ∷ []; inbound = back ∷ [] }
 
 -- two signals with equal reds and a link of some mm, at 1,000 mm/s both ways
-unfoldable pub pair : ℕ → ℕ → ℕ → Lists
-pair cycle red length = two cycle red red 0 length 1000 1000
+unfoldable pub twoAlike : ℕ → ℕ → ℕ → Lists
+twoAlike cycle red length = twoSignals cycle red red 0 length 1000 1000
 
 unfoldable pub streetA : Lists
-streetA = two 100 40 50 0 30000 10000 15000
+streetA = twoSignals 100 40 50 0 30000 10000 15000
 
 -- a plan by its reference, B, outbound and inbound width, m and the named bands' instants, in that order
 unfoldable pub plan : ℕ → ℤ → ℕ → ℕ → ℕ → ℕ → ℕ → Answer
@@ -86,18 +86,18 @@ refusal code place = Refused (record { code = code; place = place })
 unfoldable pub equal-rows : List Row
 equal-rows =
     row (record { cycle = 600; reds = 240 ∷ []; distances = 0 ∷ []; outbound = []; inbound = [] }) Equal (plan 1 (pos 720) 720 720 0 240 960) (0 ∷ 7 ∷ 7 ∷ [])
-    ∷ row (pair 600 300 30000) Equal (plan 1 (pos 600) 600 600 0 300 900) (0 ∷ 600 ∷ 7 ∷ [])
-    ∷ row (pair 600 300 15000) Equal (plan 1 (pos 300) 300 300 0 300 900) (0 ∷ 0 ∷ 7 ∷ [])
-    ∷ row (pair 600 450 15000) Equal (plan 1 (pos 0) 0 0 0 450 750) (0 ∷ 0 ∷ 7 ∷ [])
-    ∷ row (pair 600 500 15000) Equal (plan 1 (negsuc 99) 0 0 0 500 700) (0 ∷ 0 ∷ 7 ∷ [])
-    ∷ best-row (pair 10 5 50) Equal (plan 1 (pos 8) 8 8 1 5 15) (0 ∷ 0 ∷ 7 ∷ []) 9
+    ∷ row (twoAlike 600 300 30000) Equal (plan 1 (pos 600) 600 600 0 300 900) (0 ∷ 600 ∷ 7 ∷ [])
+    ∷ row (twoAlike 600 300 15000) Equal (plan 1 (pos 300) 300 300 0 300 900) (0 ∷ 0 ∷ 7 ∷ [])
+    ∷ row (twoAlike 600 450 15000) Equal (plan 1 (pos 0) 0 0 0 450 750) (0 ∷ 0 ∷ 7 ∷ [])
+    ∷ row (twoAlike 600 500 15000) Equal (plan 1 (negsuc 99) 0 0 0 500 700) (0 ∷ 0 ∷ 7 ∷ [])
+    ∷ best-row (twoAlike 10 5 50) Equal (plan 1 (pos 8) 8 8 1 5 15) (0 ∷ 0 ∷ 7 ∷ []) 9
     ∷ row streetA Equal (plan 1 (pos 60) 60 60 0 40 160) (0 ∷ 10 ∷ 7 ∷ [])
     ∷ []
 
 -- travel times to the nearest tick, one half up, each link by itself: 49 mm at 1,000 mm/s take no tick, 50 mm (row 9) take 1, and two links of 50 mm take 2
 unfoldable pub rounding-rows : List Row
 rounding-rows =
-    row (pair 10 5 49) Equal (plan 1 (pos 10) 10 10 1 5 15) (0 ∷ 0 ∷ 7 ∷ [])
+    row (twoAlike 10 5 49) Equal (plan 1 (pos 10) 10 10 1 5 15) (0 ∷ 0 ∷ 7 ∷ [])
     ∷ row
     (record { cycle = 10; reds = 5 ∷ 5 ∷ 5 ∷ []; distances = 0 ∷ 50 ∷ 100 ∷ []; outbound = 1000 ∷ 1000 ∷ []; inbound = 1000 ∷ 1000 ∷ [] })
     Equal (plan 1 (pos 6) 6 6 2 5 15) (0 ∷ 0 ∷ 0 ∷ [])
@@ -108,12 +108,12 @@ unfoldable pub width-rows : List Row
 width-rows =
     row streetA (Outbound 80) (plan 1 (pos 60) 80 40 0 20 140) (180 ∷ 10 ∷ 7 ∷ [])
     ∷ row streetA (Inbound 80) (plan 1 (pos 60) 40 80 0 40 160) (0 ∷ 190 ∷ 7 ∷ [])
-    ∷ row (pair 600 500 15000) (Outbound 200) (plan 1 (negsuc 99) 200 0 0 200 400) (900 ∷ 0 ∷ 7 ∷ [])
+    ∷ row (twoAlike 600 500 15000) (Outbound 200) (plan 1 (negsuc 99) 200 0 0 200 400) (900 ∷ 0 ∷ 7 ∷ [])
     ∷ row streetA (Outbound 59) (refusal Width 0) lent
     ∷ row streetA (Outbound 60) (plan 1 (pos 60) 60 60 0 40 160) (0 ∷ 10 ∷ 7 ∷ [])
     ∷ row streetA (Outbound 100) (plan 1 (pos 60) 100 20 0 0 120) (160 ∷ 10 ∷ 7 ∷ [])
     ∷ row streetA (Outbound 101) (refusal Width 0) lent
-    ∷ row (pair 600 500 15000) (Inbound 0) (refusal Width 0) lent
+    ∷ row (twoAlike 600 500 15000) (Inbound 0) (refusal Width 0) lent
     ∷ []
 
 -- rows 11 to 13, platoons the other way round and equal ones, and the limit
@@ -121,7 +121,7 @@ unfoldable pub platoon-rows : List Row
 platoon-rows =
     row streetA (Platoons 30 10) (plan 1 (pos 60) 90 30 0 10 130) (170 ∷ 10 ∷ 7 ∷ [])
     ∷ row streetA (Platoons 100 50) (plan 1 (pos 60) 100 20 0 0 120) (160 ∷ 10 ∷ 7 ∷ [])
-    ∷ row (pair 600 500 15000) (Platoons 50 10) (plan 1 (negsuc 99) 200 0 0 200 400) (900 ∷ 0 ∷ 7 ∷ [])
+    ∷ row (twoAlike 600 500 15000) (Platoons 50 10) (plan 1 (negsuc 99) 200 0 0 200 400) (900 ∷ 0 ∷ 7 ∷ [])
     ∷ row streetA (Platoons 10 30) (plan 1 (pos 60) 30 90 0 40 160) (0 ∷ 180 ∷ 7 ∷ [])
     ∷ row streetA (Platoons 0 0) (plan 1 (pos 60) 60 60 0 40 160) (0 ∷ 10 ∷ 7 ∷ [])
     ∷ row streetA (Platoons 100001 100001) (refusal Platoon 1) lent

@@ -16,7 +16,7 @@ use Rattle.plans.specs.Requests.{requestAnswer, requestAfter}
 use Rattle.bands.specs.Measure as bands
 use Rattle.promises.specs.Exact.{Fine, exactWays}
 use Rattle.promises.specs.Replies.{intoBand}
-use Rattle.promises.specs.Rows.{two, plan}
+use Rattle.promises.specs.Rows.{twoSignals, plan}
 
 -- a street that passes the checks, has one rounded link, and has whole exact times in a unit of N to the half
 abbrev pub RoundedOnce : Lists → ℕ → Type 0
@@ -28,7 +28,7 @@ ownOffsets l N j = N * offset (timed l) (reference (timed l)) j
 
 -- 1. Some offsets make both exact bands wider than the equal width by m halves: here 7 where that width is 6, with offsets 0, 0
 abbrev pub gains : Lists
-gains = two 10 6 4 3350 3800 3000 3000
+gains = twoSignals 10 6 4 3350 3800 3000 3000
 
 abbrev pub WiderByM : Type 0
 WiderByM =
@@ -39,7 +39,7 @@ WiderByM =
 
 -- 2. Under the equal plan's offsets both exact bands may fall short of the equal width by m halves: here 17 where that width is 18
 abbrev pub loses : Lists
-loses = two 10 1 1 0 450 1000 1000
+loses = twoSignals 10 1 1 0 450 1000 1000
 
 abbrev pub ShortByM : Type 0
 ShortByM =
@@ -64,7 +64,7 @@ ownEnds l = let c = reference (timed l) in redStart (timed l) c (offset (timed l
 
 -- the street of 2 does so at the outbound start and the inbound end, in hundredths of a half, and this one at the inbound start and the outbound end
 abbrev pub losesToo : Lists
-losesToo = two 10 1 1 0 250 1000 1000
+losesToo = twoSignals 10 1 1 0 250 1000 1000
 
 abbrev pub RedWithinM : Type 0
 RedWithinM =
@@ -80,7 +80,7 @@ RedWithinM =
 -- 4. A measured band may be another stretch as long as the named one: the plan for 16 outbound has a named inbound band of 6, `measure` finds one of 6 that starts at 7 at signal 2, and the
 -- departure at 7 comes by at c 10 halves after the named band's start
 abbrev pub elsewhere : Lists
-elsewhere = two 10 2 2 0 10000 5000 20000
+elsewhere = twoSignals 10 2 2 0 10000 5000 20000
 
 abbrev pub MeasuredElsewhere : Type 0
 MeasuredElsewhere =

@@ -9,21 +9,21 @@ use Rattle.circle.specs.Moved.{g, inRange, chosen, outboundLowering, inboundLow
 use Rattle.street.specs.Checks.{countCheck, roomCheck, cycleCheck, redCheck, distanceCheck, speedCheck, planChecks}
 use Rattle.widths.specs.Moved.{platoonShift}
 use Rattle.widths.specs.Checks.{platoonCheck, widthCheck}
-use Rattle.promises.specs.Rows.{best-is, ExactBest, lent, Holds, All, two, pair, streetA, plan, row, best-row, refusal, equal-rows, rounding-rows, width-rows, platoon-rows, rows}
+use Rattle.promises.specs.Rows.{best-is, ExactBest, lent, Holds, All, twoSignals, twoAlike, streetA, plan, row, best-row, refusal, equal-rows, rounding-rows, width-rows, platoon-rows, rows}
 use Rattle.promises.proofs.Streets.Directions.{near-exact}
 use Rattle.promises.proofs.Kept.Bounds.{none-wider}
-use Rattle.promises.proofs.Witnesses.{fine-two}
+use Rattle.promises.proofs.Witnesses.{fine-link}
 
 -- row 9's exact best: offsets 0, 0 attain it both ways, and none attain more, which is the bound by m at its numbers
-nine : ExactBest (pair 10 5 50) (best-is 9)
-unfolding ExactBest two pair firstBelow sumBelow leastBelow greatestBelow u pairWidth b B reference phase offset equalWidth redEnd redStart allBelow greatestUpTo clear stretch width countCheck roomCheck cycleCheck redCheck distanceCheck speedCheck planChecks
+nine : ExactBest (twoAlike 10 5 50) (best-is 9)
+unfolding ExactBest twoSignals twoAlike firstBelow sumBelow leastBelow greatestBelow u pairWidth b B reference phase offset equalWidth redEnd redStart allBelow greatestUpTo clear stretch width countCheck roomCheck cycleCheck redCheck distanceCheck speedCheck planChecks
 nine = (
-  (fine-two 10 5 5 0 50 1000 1 (omega arith) refl, ((λ j. 0), refl, refl)),
-  λ N fine. none-wider (pair 10 5 50) 2 refl N 1 (near-exact (pair 10 5 50) 2 refl N fine),
+  (fine-link 10 5 5 0 50 1000 1 (omega arith) refl, ((λ j. 0), refl, refl)),
+  λ N fine. none-wider (twoAlike 10 5 50) 2 refl N 1 (near-exact (twoAlike 10 5 50) 2 refl N fine),
 )
 
 pub rows-hold : All rows
-unfolding All Holds ExactBest best-row row plan refusal rows equal-rows rounding-rows width-rows platoon-rows two pair streetA lent
+unfolding All Holds ExactBest best-row row plan refusal rows equal-rows rounding-rows width-rows platoon-rows twoSignals twoAlike streetA lent
 rows-hold =
     unfold countCheck roomCheck cycleCheck redCheck distanceCheck speedCheck planChecks platoonCheck widthCheck in
     unfold firstBelow sumBelow leastBelow greatestBelow listBelow u pairWidth b B reference phase offset equalWidth redEnd redStart g inRange chosen outboundLowering inboundLowering lowered otherWidth platoonWidth platoonShift in
