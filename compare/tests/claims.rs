@@ -1,10 +1,11 @@
-//! docs/CLAIMS.md held to the repository: each file that it names is there, each must-fail edit has its row, and as many
-//! lines are cited as it says.
+//! docs/CLAIMS.md held to the repository: each file that it names is there, each must-fail edit has its row and its twin,
+//! and as many lines are cited as it says.
 
 use compare::cited::{is_steps, total, House, Part, DEMANDS};
 use compare::page::{coded, Page};
-use compare::run::repository;
+use compare::run::{repository, text};
 use std::fs;
+use std::path::{Path, PathBuf};
 
 /// What stands between backquotes on the page.
 fn words() -> Vec<String> {
@@ -30,24 +31,34 @@ fn every_file_that_the_claims_name_is_there() {
     assert!(files.len() > 40 && missing.is_empty(), "{} files, missing: {missing:?}", files.len());
 }
 
+/// The names in a folder, one after the other; none where there is no such folder.
+fn names_in(folder: &Path) -> Vec<String> {
+    let entries = fs::read_dir(folder).into_iter().flatten();
+    let mut names: Vec<String> =
+        entries.map(|entry| entry.expect("an entry").file_name().into_string().expect("a name")).collect();
+    names.sort();
+    names
+}
+
+/// Every crate with the files of a folder of edits of its own.
+fn edits(of: impl Fn(&str) -> PathBuf) -> Vec<(String, String)> {
+    let with = |name: String| names_in(&of(&name)).into_iter().map(move |edit| (name.clone(), edit));
+    names_in(&repository().join("crates")).into_iter().flat_map(with).collect()
+}
+
 #[test]
 fn every_edit_has_its_row() {
     let words = words();
-    let mut edits = 0;
-    for folder in fs::read_dir(repository().join("crates")).expect("the crates") {
-        let folder = folder.expect("a crate").path();
-        let name = folder.file_name().and_then(|name| name.to_str()).expect("a name").to_string();
-        for edit in fs::read_dir(folder.join("must-fail")).into_iter().flatten() {
-            let edit = edit.expect("an edit").path();
-            let label = edit.file_stem().and_then(|label| label.to_str()).expect("a label");
-            let full = format!("{name}/must-fail/{label}");
-            let row = [full.as_str(), label, &format!("{name}/must-fail/*")]
-                .iter()
-                .any(|text| words.iter().any(|word| word == text));
-            assert!(row, "docs/CLAIMS.md has no row for {full}");
-            edits += 1;
-        }
+    let edits = edits(|name| repository().join(format!("crates/{name}/must-fail")));
+    for (name, file) in &edits {
+        let label = file.trim_end_matches(".edit");
+        let full = format!("{name}/must-fail/{label}");
+        let row = [full.as_str(), label, &format!("{name}/must-fail/*")]
+            .iter()
+            .any(|text| words.iter().any(|word| word == text));
+        assert!(row, "docs/CLAIMS.md has no row for {full}");
     }
+    let edits = edits.len();
     let gone = |word: &&String| {
         word.contains("/must-fail/")
             && !word.ends_with('*')
@@ -55,6 +66,23 @@ fn every_edit_has_its_row() {
     };
     let gone: Vec<&String> = words.iter().filter(gone).collect();
     assert!(edits > 50 && gone.is_empty(), "{edits} edits; without a file: {gone:?}");
+}
+
+/// The lines of an edit that say where it changes what.
+fn places(path: &str) -> Vec<String> {
+    let at_place = |line: &&str| line.starts_with("file:") || line.starts_with("old:");
+    text(path).lines().filter(at_place).map(String::from).collect()
+}
+
+#[test]
+fn every_edit_has_a_twin_at_its_places() {
+    let crates = edits(|name| repository().join(format!("crates/{name}/must-fail")));
+    let twins = edits(|name| repository().join(format!("twins/{name}")));
+    assert_eq!(crates, twins, "an edit without a twin, or a twin without an edit");
+    for (name, file) in &crates {
+        let (edit, twin) = (format!("crates/{name}/must-fail/{file}"), format!("twins/{name}/{file}"));
+        assert_eq!(places(&edit), places(&twin), "{twin} rewrites other places");
+    }
 }
 
 /// What the public contracts cite of each file of specs/, and what the demands cite.
