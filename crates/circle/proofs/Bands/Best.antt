@@ -29,7 +29,7 @@ module _ (s : Timed) (fit : Fit s) (two : Bounded s) where
 
 -- two stretches of signed length that make up 2B are the longest of their directions: no departures pass beyond them
 pub longest-both :
-    (s : Timed) → Bounded s → (f : ℕ → ℕ) (x y v v′ m m′ : ℕ) → Spans (outboundWay s f) x v m → Spans (inboundWay s f) y v′ m′ → v + v′ + 2 * halves s ≡ 2 * B⁺ s + (m + m′) →
+    (s : Timed) → Bounded s → (f : ℕ → ℕ) (x y v v′ lack lack′ : ℕ) → Spans (outboundWay s f) x v lack → Spans (inboundWay s f) y v′ lack′ → v + v′ + 2 * halves s ≡ 2 * B⁺ s + (lack + lack′) →
     ((z k : ℕ) → Passes (outboundWay s f) z k → k ≤ v) × ((z k : ℕ) → Passes (inboundWay s f) z k → k ≤ v′)
-longest-both s two f x y v v′ m m′ out back all =
-    (λ z k p. omega (arith, two f z y k v′ 0 m′ (spans p) back), λ z k p. omega (arith, two f x z v k m 0 out (spans p)))
+longest-both s two f x y v v′ lack lack′ out back all =
+    (λ z k p. omega (arith, two f z y k v′ 0 lack′ (spans p) back), λ z k p. omega (arith, two f x z v k lack 0 out (spans p)))

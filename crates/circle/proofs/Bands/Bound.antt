@@ -99,12 +99,12 @@ phased C k m n c = go (decLt 0 ((c .p + c .q) % 2))
         let e : c .p + c .q ≡ 2 * ((c .p + c .q) / 2) = omega arith in
         inl (record { p = (c .p + c .q) / 2; q = c .q; eq = omega (arith, c .eq, ap (λ (z : ℕ). z * C) e) })
 
--- one pair of signals: half the difference of their κ, round the cycle, is what u subtracts from H, and it leaves room for half of the two stretches, v - m and v′ - m′ long
+-- one pair of signals: half the difference of their κ, round the cycle, is what u subtracts from H, and it leaves room for half of the two stretches, each of signed length, less what it lacks
 pair :
-    (C a b r y a′ b′ r′ y′ v v′ m m′ o x : ℕ) → b + v′ + 2 * r ≤ 2 * C + m′ → b′ + v′ + 2 * r′ ≤ 2 * C + m′ → a′ + v + 2 * r′ ≤ 2 * C + m →
-    a + (2 * C + m′ - (b + 2 * r)) ≤ a′ + (2 * C + m′ - (b′ + 2 * r′)) → Turns (2 * C) (a + o) (b + (x + 2 * y)) → Turns (2 * C) (a′ + o) (b′ + (x + 2 * y′)) →
-    (k : ℕ) × (2 * k + 4 * r′ + (v + v′) ≤ 4 * C + (m + m′)) × Turns C (k + (r′ + y)) (r + y′)
-pair C a b r y a′ b′ r′ y′ v v′ m m′ o x l l′ k least c d =
+    (C a b r y a′ b′ r′ y′ v v′ lack lack′ o x : ℕ) → b + v′ + 2 * r ≤ 2 * C + lack′ → b′ + v′ + 2 * r′ ≤ 2 * C + lack′ → a′ + v + 2 * r′ ≤ 2 * C + lack →
+    a + (2 * C + lack′ - (b + 2 * r)) ≤ a′ + (2 * C + lack′ - (b′ + 2 * r′)) → Turns (2 * C) (a + o) (b + (x + 2 * y)) → Turns (2 * C) (a′ + o) (b′ + (x + 2 * y′)) →
+    (k : ℕ) × (2 * k + 4 * r′ + (v + v′) ≤ 4 * C + (lack + lack′)) × Turns C (k + (r′ + y)) (r + y′)
+pair C a b r y a′ b′ r′ y′ v v′ lack lack′ o x l l′ k least c d =
     let P : ℕ = r′ + y + (d .p + c .q) * C in
     let Q : ℕ = r + y′ + (d .q + c .p) * C in
     let order : a + b′ + 2 * r′ ≤ a′ + b + 2 * r = omega arith in
@@ -113,9 +113,9 @@ pair C a b r y a′ b′ r′ y′ v v′ m m′ o x l l′ k least c d =
 
 -- κ(j): the time since j's red ended, outbound, and the time until it starts again, inbound, with what an inbound stretch lacks
 κ : Timed → (ℕ → ℕ) → ℕ → ℕ → ℕ → ℕ → ℕ
-κ s f x y m′ j = since (outboundWay s f) x j + (2 * s .cycle + m′ - (since (inboundWay s f) y j + 2 * s .red j))
+κ s f x y lack′ j = since (outboundWay s f) x j + (2 * s .cycle + lack′ - (since (inboundWay s f) y j + 2 * s .red j))
 
-module _ (s : Timed) (fit : Fit s) (rising : Rising s) (f : ℕ → ℕ) (x y v v′ m m′ : ℕ) (out : Spans (outboundWay s f) x v m) (back : Spans (inboundWay s f) y v′ m′) where
+module _ (s : Timed) (fit : Fit s) (rising : Rising s) (f : ℕ → ℕ) (x y v v′ lack lack′ : ℕ) (out : Spans (outboundWay s f) x v lack) (back : Spans (inboundWay s f) y v′ lack′) where
   apart : (j : ℕ) → j < s .signals → Turns (2 * s .cycle) (since (outboundWay s f) x j + (y + 2 * s .inbound (s .signals - 1))) (since (inboundWay s f) y j + (x + 2 * (s .outbound j + s .inbound j)))
   apart j l =
       let turns : 0 < 2 * s .cycle = omega (arith, fit .turns) in
@@ -123,23 +123,23 @@ module _ (s : Timed) (fit : Fit s) (rising : Rising s) (f : ℕ → ℕ) (x y v 
 
   -- what k leaves of the pair's width, under the phase that k belongs to
   wide :
-      (i j e k : ℕ) → m + m′ < v + v′ + 4 * s .red j → 2 * k + 4 * s .red j + (v + v′) ≤ 4 * s .cycle + (m + m′) →
-      Turns (2 * s .cycle) (k + (s .red j + s .outbound i + s .inbound i + e)) (s .red i + s .outbound j + s .inbound j) → v + v′ + 2 * halves s ≤ 2 * raised s i j e + (m + m′)
+      (i j e k : ℕ) → lack + lack′ < v + v′ + 4 * s .red j → 2 * k + 4 * s .red j + (v + v′) ≤ 4 * s .cycle + (lack + lack′) →
+      Turns (2 * s .cycle) (k + (s .red j + s .outbound i + s .inbound i + e)) (s .red i + s .outbound j + s .inbound j) → v + v′ + 2 * halves s ≤ 2 * raised s i j e + (lack + lack′)
   wide i j e k some room turns =
       let same = u-is s i j e k (omega arith) turns in
       omega arith
 
-  reaches : (i j : ℕ) → i < s .signals → j < s .signals → 0 < s .red i → 0 < s .red j → κ s f x y m′ i ≤ κ s f x y m′ j → v + v′ + 2 * halves s ≤ 2 * larger-raised s i j + (m + m′)
+  reaches : (i j : ℕ) → i < s .signals → j < s .signals → 0 < s .red i → 0 < s .red j → κ s f x y lack′ i ≤ κ s f x y lack′ j → v + v′ + 2 * halves s ≤ 2 * larger-raised s i j + (lack + lack′)
   unfolding κ
-  reaches i j li lj ri rj least = go (decLt (m + m′) (v + v′ + 4 * s .red j))
+  reaches i j li lj ri rj least = go (decLt (lack + lack′) (v + v′ + 4 * s .red j))
     where
-      go : Dec (m + m′ < v + v′ + 4 * s .red j) → v + v′ + 2 * halves s ≤ 2 * larger-raised s i j + (m + m′)
+      go : Dec (lack + lack′ < v + v′ + 4 * s .red j) → v + v′ + 2 * halves s ≤ 2 * larger-raised s i j + (lack + lack′)
       -- two stretches that lack so much leave room whatever u is
       go (no little) = omega (arith, fit .goes j lj)
       go (yes some) =
           let α = since (outboundWay s f) x in
           let β = since (inboundWay s f) y in
-          let k = pair (s .cycle) (α i) (β i) (s .red i) (s .outbound i + s .inbound i) (α j) (β j) (s .red j) (s .outbound j + s .inbound j) v v′ m m′ (y + 2 * s .inbound (s .signals - 1)) x (back .each i li (omega arith)) (back .each j lj (omega arith)) (out .each j lj (omega arith)) least (apart i li) (apart j lj) in
+          let k = pair (s .cycle) (α i) (β i) (s .red i) (s .outbound i + s .inbound i) (α j) (β j) (s .red j) (s .outbound j + s .inbound j) v v′ lack lack′ (y + 2 * s .inbound (s .signals - 1)) x (back .each i li (omega arith)) (back .each j lj (omega arith)) (out .each j lj (omega arith)) least (apart i li) (apart j lj) in
           ⊎-elim
           (λ c. let w = wide i j 0 (k .0) some (k .1) c in omega arith)
           (λ c. let w = wide i j (s .cycle) (k .0) some (k .1) c in omega arith)
@@ -147,24 +147,24 @@ module _ (s : Timed) (fit : Fit s) (rising : Rising s) (f : ℕ → ℕ) (x y v 
           (record { p = k .2 .p; q = k .2 .q; eq = omega (arith, k .2 .eq) }))
 
   -- some signal with a red has every pair that it forms with a signal with a red at least half as wide as the two stretches
-  pub widest : (k : ℕ) → k < s .signals → 0 < s .red k → (i : ℕ) × (i < s .signals) × (0 < s .red i) × ((j : ℕ) → j < s .signals → 0 < s .red j → v + v′ + 2 * halves s ≤ 2 * larger-raised s i j + (m + m′))
+  pub widest : (k : ℕ) → k < s .signals → 0 < s .red k → (i : ℕ) × (i < s .signals) × (0 < s .red i) × ((j : ℕ) → j < s .signals → 0 < s .red j → v + v′ + 2 * halves s ≤ 2 * larger-raised s i j + (lack + lack′))
   widest k l r =
-      let i = least-where (s .signals) (s .red) (κ s f x y m′) k l r in
+      let i = least-where (s .signals) (s .red) (κ s f x y lack′) k l r in
       (i .at, i .below, i .counts, λ j lj rj. reaches (i .at) j (i .below) lj (i .counts) rj (i .least j lj rj))
 
--- any two stretches, one each way and under any offsets, of the signed lengths v - m and v′ - m′: together at most 2B, raised by two cycles
+-- any two stretches, one each way and under any offsets, v and v′ long less what they lack: together at most 2B, raised by two cycles
 abbrev pub Bounded : Timed → Type 0
 Bounded s =
-    (f : ℕ → ℕ) (x y v v′ m m′ : ℕ) → Spans (outboundWay s f) x v m → Spans (inboundWay s f) y v′ m′ → v + v′ + 2 * halves s ≤ 2 * B⁺ s + (m + m′)
+    (f : ℕ → ℕ) (x y v v′ lack lack′ : ℕ) → Spans (outboundWay s f) x v lack → Spans (inboundWay s f) y v′ lack′ → v + v′ + 2 * halves s ≤ 2 * B⁺ s + (lack + lack′)
 
 -- they are so where each signal, every one of which B counts, has a red
 pub bound : (s : Timed) → Fit s → Stops s → Rising s → Bounded s
 unfolding b⁺
-bound s fit stops rising f x y v v′ m m′ out back =
+bound s fit stops rising f x y v v′ lack lack′ out back =
     let first : 0 < s .signals = fit .some in
-    let (i, l, r, each) = widest s fit rising f x y v v′ m m′ out back 0 first (stops 0 first) in
+    let (i, l, r, each) = widest s fit rising f x y v v′ lack lack′ out back 0 first (stops 0 first) in
     let most = max-ge (s .signals) (b⁺ s) i l in
-    let half = (v + v′ + 2 * halves s - (m + m′) + 1) / 2 in
+    let half = (v + v′ + 2 * halves s - (lack + lack′) + 1) / 2 in
     let least = min-from (4 * s .cycle) (s .signals) (larger-raised s i) half (omega (arith, each i l r, top s fit i i l)) (λ j h. omega (arith, each j h (stops j h))) in
     omega arith
 

@@ -32,21 +32,21 @@ meets w c instant a h =
 pub record Named (w : Way) (c instant a v : ℕ) : Type 0 where
   pub passes : (x : ℕ) → Meets w c instant a x → 1 ≤ v → Passes w x v
 
--- the two bands that a plan names, v wide outbound and v′ inbound. As stretches of signed length, less m and m′ where the plan has none of that width, they make up 2B
+-- the two bands that a plan names, v wide outbound and v′ inbound. As stretches of signed length, less what they lack where the plan has none of that width, they make up 2B
 pub record Bands (s : Timed) (f : ℕ → ℕ) (v v′ : ℕ) : Type 0 where
-  pub m : ℕ
-  pub m′ : ℕ
+  pub lack : ℕ
+  pub lack′ : ℕ
   pub x : ℕ
   pub y : ℕ
   pub out : Named (outboundWay s f) (reference s) (redEnd s (reference s) (f (reference s))) 0 v
   pub back : Named (inboundWay s f) (reference s) (redStart s (reference s) (f (reference s))) v′ v′
-  pub out-spans : Spans (outboundWay s f) x v m
-  pub back-spans : Spans (inboundWay s f) y v′ m′
-  pub all : v + v′ + 2 * halves s ≡ 2 * B⁺ s + (m + m′)
+  pub out-spans : Spans (outboundWay s f) x v lack
+  pub back-spans : Spans (inboundWay s f) y v′ lack′
+  pub all : v + v′ + 2 * halves s ≡ 2 * B⁺ s + (lack + lack′)
 
--- room for v - m departures at signal j, where of the two lowerings, its own and the reference's, d takes from it and e adds to it
-pub record Room (s : Timed) (v m j d e : ℕ) : Type 0 where
-  pub before : v + 2 * s .red j + d ≤ chosen s j + e + m
+-- room for v departures at signal j, or for so many fewer, where of the two lowerings, its own and the reference's, d takes from it and e adds to it
+pub record Room (s : Timed) (v lack j d e : ℕ) : Type 0 where
+  pub before : v + 2 * s .red j + d ≤ chosen s j + e + lack
   pub after : chosen s j + e ≤ halves s + d
 
 module _ (s : Timed) (fit : Fit s) (rising : Rising s) (f δ : ℕ → ℕ) (low : (j : ℕ) → Turns (halves s) (f j + δ j) (offset s (reference s) j)) where
@@ -70,9 +70,9 @@ module _ (s : Timed) (fit : Fit s) (rising : Rising s) (f δ : ℕ → ℕ) (low
 
   -- the departure that comes by the reference as its red ends
   out-spans-from :
-      (x v m : ℕ) → Meets (outboundWay s f) (reference s) (redEnd s (reference s) (f (reference s))) 0 x → ((j : ℕ) → j < s .signals → Room s v m j (δ j) (δ (reference s))) →
-      Spans (outboundWay s f) x v m
-  out-spans-from x v m from room =
+      (x v lack : ℕ) → Meets (outboundWay s f) (reference s) (redEnd s (reference s) (f (reference s))) 0 x → ((j : ℕ) → j < s .signals → Room s v lack j (δ j) (δ (reference s))) →
+      Spans (outboundWay s f) x v lack
+  out-spans-from x v lack from room =
       record {
         each =
             λ j l r.
@@ -87,11 +87,11 @@ module _ (s : Timed) (fit : Fit s) (rising : Rising s) (f δ : ℕ → ℕ) (low
             omega (arith, k .before, k .after);
       }
 
-  -- and the one that comes by v before its red starts, or m after that where v is lacking
+  -- and the one that comes by v before its red starts, or later by what is lacking
   back-spans-to :
-      (y v m : ℕ) → Meets (inboundWay s f) (reference s) (redStart s (reference s) (f (reference s)) + m) v y → ((j : ℕ) → j < s .signals → Room s v m j (δ (reference s)) (δ j)) →
-      Spans (inboundWay s f) y v m
-  back-spans-to y v m to room =
+      (y v lack : ℕ) → Meets (inboundWay s f) (reference s) (redStart s (reference s) (f (reference s)) + lack) v y → ((j : ℕ) → j < s .signals → Room s v lack j (δ (reference s)) (δ j)) →
+      Spans (inboundWay s f) y v lack
+  back-spans-to y v lack to room =
       record {
         each =
             λ j l r.
@@ -102,15 +102,15 @@ module _ (s : Timed) (fit : Fit s) (rising : Rising s) (f δ : ℕ → ℕ) (low
             let E = start-turns s c (f c) around in
             let (t, two) = twice (phase s c j) (s .cycle) (offset-patterned s c around .either j l) in
             let k = room j l in
-            let g = chosen s j + δ j + m - (v + 2 * s .red j + δ c) in
+            let g = chosen s j + δ j + lack - (v + 2 * s .red j + δ c) in
             let most = since-le (inboundWay s f) y j g around (record { p = U .q + σ .p + o .q + E .q + to .q; q = 1 + t + U .p + σ .q + o .p + E .p + to .p; eq = omega (arith, U .eq, σ .eq, o .eq, E .eq, to .eq, chosen-range s fit j, rising j l, rising c (reference-first s fit .below), k .before) }) in
             omega (arith, k .before, k .after);
       }
 
   -- the bands are there where each signal has room, and none is lacking of a band that is open
   module _
-      (v v′ m m′ : ℕ) (none : 1 ≤ v → m ≡ 0) (none′ : 1 ≤ v′ → m′ ≡ 0) (all : v + v′ + 2 * halves s ≡ 2 * B⁺ s + (m + m′))
-      (room : (j : ℕ) → j < s .signals → Room s v m j (δ j) (δ (reference s))) (room′ : (j : ℕ) → j < s .signals → Room s v′ m′ j (δ (reference s)) (δ j))
+      (v v′ lack lack′ : ℕ) (none : 1 ≤ v → lack ≡ 0) (none′ : 1 ≤ v′ → lack′ ≡ 0) (all : v + v′ + 2 * halves s ≡ 2 * B⁺ s + (lack + lack′))
+      (room : (j : ℕ) → j < s .signals → Room s v lack j (δ j) (δ (reference s))) (room′ : (j : ℕ) → j < s .signals → Room s v′ lack′ j (δ (reference s)) (δ j))
     where
       first : Named (outboundWay s f) (reference s) (redEnd s (reference s) (f (reference s))) 0 v
       first =
@@ -119,7 +119,7 @@ module _ (s : Timed) (fit : Fit s) (rising : Rising s) (f δ : ℕ → ℕ) (low
                 λ x from some.
                 let c = room (reference s) (reference-first s fit .below) in
                 let full = none some in
-                record { most = omega (arith, c .before, c .after); each = λ j l r. omega (arith, out-spans-from x v m from room .each j l r) };
+                record { most = omega (arith, c .before, c .after); each = λ j l r. omega (arith, out-spans-from x v lack from room .each j l r) };
           }
 
       last : Named (inboundWay s f) (reference s) (redStart s (reference s) (f (reference s))) v′ v′
@@ -129,23 +129,23 @@ module _ (s : Timed) (fit : Fit s) (rising : Rising s) (f δ : ℕ → ℕ) (low
                 λ y to some.
                 let c = room′ (reference s) (reference-first s fit .below) in
                 let full = none′ some in
-                let there : Meets (inboundWay s f) (reference s) (redStart s (reference s) (f (reference s)) + m′) v′ y = record { p = to .p; q = to .q; eq = omega (arith, to .eq) } in
-                record { most = omega (arith, c .before, c .after); each = λ j l r. omega (arith, back-spans-to y v′ m′ there room′ .each j l r) };
+                let there : Meets (inboundWay s f) (reference s) (redStart s (reference s) (f (reference s)) + lack′) v′ y = record { p = to .p; q = to .q; eq = omega (arith, to .eq) } in
+                record { most = omega (arith, c .before, c .after); each = λ j l r. omega (arith, back-spans-to y v′ lack′ there room′ .each j l r) };
           }
 
       pub bands : Bands s f v v′
       bands =
           let c = reference s in
           let (x, lx, from) = meets (outboundWay s f) c (redEnd s c (f c)) 0 around in
-          let (y, ly, to) = meets (inboundWay s f) c (redStart s c (f c) + m′) v′ around in
+          let (y, ly, to) = meets (inboundWay s f) c (redStart s c (f c) + lack′) v′ around in
           record {
-            m = m;
-            m′ = m′;
+            lack = lack;
+            lack′ = lack′;
             x = x;
             y = y;
             out = first;
             back = last;
-            out-spans = out-spans-from x v m from room;
-            back-spans = back-spans-to y v′ m′ to room′;
+            out-spans = out-spans-from x v lack from room;
+            back-spans = back-spans-to y v′ lack′ to room′;
             all = all;
           }

@@ -136,8 +136,8 @@ module _ (N : ℕ) (w z : Way) (same : Finer N w z) (turns : 0 < z .around) wher
   some zero l = absurd (omega arith)
   some (suc k) l = omega arith
 
-  pub finer-spans : (x v m : ℕ) → Spans w x v m → Spans z (N * x) (N * v) (N * m)
-  finer-spans x v m stretch =
+  pub finer-spans : (x v lack : ℕ) → Spans w x v lack → Spans z (N * x) (N * v) (N * lack)
+  finer-spans x v lack stretch =
       record {
         each =
             λ j h r.

@@ -11,9 +11,9 @@ use Rattle.circle.proofs.Stretches.{Spans, spans}
 use Rattle.circle.proofs.Bands.{Named, Bands}
 
 module _ (s : Timed) (f g : ℕ → ℕ) (same : (j : ℕ) → j < s .signals → g j ≡ f j) where
-  spans-same : {lag : ℕ → ℕ} (x v m : ℕ) → Spans (wayThrough s f lag) x v m → Spans (wayThrough s g lag) x v m
-  spans-same {lag} x v m stretch =
-      record { each = λ j l r. subst (λ (z : ℕ). man (halves s) (pos (x + lag j) -ℤ pos (redStart s j z + 2 * s .red j)) + v + 2 * s .red j ≤ halves s + m) (sym (same j l)) (stretch .each j l r) }
+  spans-same : {lag : ℕ → ℕ} (x v lack : ℕ) → Spans (wayThrough s f lag) x v lack → Spans (wayThrough s g lag) x v lack
+  spans-same {lag} x v lack stretch =
+      record { each = λ j l r. subst (λ (z : ℕ). man (halves s) (pos (x + lag j) -ℤ pos (redStart s j z + 2 * s .red j)) + v + 2 * s .red j ≤ halves s + lack) (sym (same j l)) (stretch .each j l r) }
 
   named-same : {lag : ℕ → ℕ} (c instant a v : ℕ) → Named (wayThrough s f lag) c instant a v → Named (wayThrough s g lag) c instant a v
   named-same c instant a v named =
@@ -29,13 +29,13 @@ module _ (s : Timed) (f g : ℕ → ℕ) (same : (j : ℕ) → j < s .signals �
       let c = reference s in
       let own = sym (same c (reference-lt s some)) in
       record {
-        m = named .m;
-        m′ = named .m′;
+        lack = named .lack;
+        lack′ = named .lack′;
         x = named .x;
         y = named .y;
         out = subst (λ (z : ℕ). Named (outboundWay s g) c (redEnd s c z) 0 v) own (named-same c (redEnd s c (f c)) 0 v (named .out));
         back = subst (λ (z : ℕ). Named (inboundWay s g) c (redStart s c z) v′ v′) own (named-same c (redStart s c (f c)) v′ v′ (named .back));
-        out-spans = spans-same (named .x) v (named .m) (named .out-spans);
-        back-spans = spans-same (named .y) v′ (named .m′) (named .back-spans);
+        out-spans = spans-same (named .x) v (named .lack) (named .out-spans);
+        back-spans = spans-same (named .y) v′ (named .lack′) (named .back-spans);
         all = named .all;
       }

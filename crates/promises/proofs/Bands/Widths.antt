@@ -58,5 +58,5 @@ module _ (s : Timed) (ok : Fit s) (f : ℕ → ℕ) {lag : ℕ → ℕ} where
 pub bands-measured : (s : Timed) → Fit s → Bounded s → (f : ℕ → ℕ) (v v′ : ℕ) → Bands s f v v′ → (width (outboundWay s f) ≡ v) × (width (inboundWay s f) ≡ v′)
 bands-measured s ok two f v v′ named =
     let c = reference s in
-    let most = longest-both s two f (named .x) (named .y) v v′ (named .m) (named .m′) (named .out-spans) (named .back-spans) (named .all) in
+    let most = longest-both s two f (named .x) (named .y) v v′ (named .lack) (named .lack′) (named .out-spans) (named .back-spans) (named .all) in
     (named-width s ok f c (redEnd s c (f c)) 0 v (named .out) (most .0), named-width s ok f c (redStart s c (f c)) v′ v′ (named .back) (most .1))

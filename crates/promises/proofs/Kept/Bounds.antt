@@ -107,10 +107,10 @@ module _ (l : Lists) (room : ℕ) (passed : planChecks l room ≡ Passed) (N r :
         let f⁺ : ℕ → ℕ = λ j. N * f j in
         let around : 0 < 2 * (N * s .cycle) = omega (arith, fit-fine .turns) in
         let turn = fit l room passed .turns in
-        let to = finer-spans N (outboundWay s f) (outboundWay z f⁺) (outbound-finer N s f (near .some) turn) around (named .x) v (named .m) (named .out-spans) in
-        let fro = finer-spans N (inboundWay s f) (inboundWay z f⁺) (inbound-finer N s f (near .some) turn) around (named .y) v′ (named .m′) (named .back-spans) in
-        let all : N * v + N * v′ + 2 * halves z ≡ 2 * B⁺ z + (N * named .m + N * named .m′) = omega (arith, ap (λ (k : ℕ). N * k) (named .all), greatest-scaled N s (near .some) (fit l room passed)) in
-        let most = longest-both z (bounded-fine l room passed N (near .some)) f⁺ (N * named .x) (N * named .y) (N * v) (N * v′) (N * named .m) (N * named .m′) to fro all in (
+        let to = finer-spans N (outboundWay s f) (outboundWay z f⁺) (outbound-finer N s f (near .some) turn) around (named .x) v (named .lack) (named .out-spans) in
+        let fro = finer-spans N (inboundWay s f) (inboundWay z f⁺) (inbound-finer N s f (near .some) turn) around (named .y) v′ (named .lack′) (named .back-spans) in
+        let all : N * v + N * v′ + 2 * halves z ≡ 2 * B⁺ z + (N * named .lack + N * named .lack′) = omega (arith, ap (λ (k : ℕ). N * k) (named .all), greatest-scaled N s (near .some) (fit l room passed)) in
+        let most = longest-both z (bounded-fine l room passed N (near .some)) f⁺ (N * named .x) (N * named .y) (N * v) (N * v′) (N * named .lack) (N * named .lack′) to fro all in (
           named-exact l room passed N r (near .some) (near .outwards) f nothing c (redEnd s c (f c)) 0 v (named .out) (most .0),
           named-exact l room passed N r (near .some) (near .inwards) f nothing c (redStart s c (f c)) v′ v′ (named .back) (most .1),
         )
