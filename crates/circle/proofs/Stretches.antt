@@ -2,7 +2,7 @@
 -- where reds or lags move, or where the way is mirrored.
 pub use Rattle.circle.proofs.Stretches.Arcs.{Passes, Spans, since, spans, where-some}
 pub use Rattle.circle.proofs.Stretches.Since.{Rising, Stops, along}
-pub use Rattle.circle.proofs.Stretches.Reflection.{Patterned, likes, offset-patterned, offset-turns}
+pub use Rattle.circle.proofs.Stretches.Reflection.{Patterned, likes, offset-turns}
 pub use Rattle.circle.proofs.Stretches.Perturbation.{lags-back, lags-passes, part}
 pub use Rattle.circle.proofs.Stretches.Clear.{Proper, band-starts, passes-stretch, since-turns, width-ge}
 pub use Rattle.circle.proofs.Stretches.Longest.{endAt, left, longest, longest-least, since-end}
