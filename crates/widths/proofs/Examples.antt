@@ -7,6 +7,7 @@ use Rattle.circle.specs.Moved.{g, inRange, otherWidth, platoonWidth}
 use Rattle.circle.proofs.Examples.Method.{three}
 use Rattle.street.specs.Codes.{codeOf, placeOf}
 use Rattle.widths.specs.Moved.{platoonShift, shiftOf, outboundWidth, inboundWidth}
+use Rattle.widths.specs.Steps.{portionOf}
 use Rattle.widths.specs.Checks.{platoonCheck, widthCheck, requestCheck}
 use Rattle.widths.specs.declared.Request.{Request}
 use Rattle.widths.specs.declared.Request.the-variants as request
@@ -26,6 +27,10 @@ lengths = refl
 -- a width is taken as it is
 asked : map (λ (r : Request). shiftOf r three) (request.Equal ∷ request.Outbound 6 ∷ request.Inbound 7 ∷ []) ≡ Unmoved ∷ Outbound 6 ∷ Inbound 7 ∷ []
 asked = refl
+
+-- 4 of 7 in 10 are 5 5/7, rounded down
+portion : portionOf 10 4 7 ≡ 5
+portion = refl
 
 -- platoons: equal ones move nothing; the longer has 2B · 4/7 = 5 5/7, rounded down; above 2B it has its length, at most g
 favoured : map (λ (r : Request). shiftOf r three) (request.Platoons 4 4 ∷ request.Platoons 4 3 ∷ request.Platoons 3 4 ∷ request.Platoons 5 7 ∷ request.Platoons 20 10 ∷ []) ≡ Unmoved ∷ Outbound 5 ∷ Inbound 5 ∷ Inbound 7 ∷ Outbound 8 ∷ []

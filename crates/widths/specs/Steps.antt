@@ -1,5 +1,5 @@
 -- Steps: what the library's functions say to each other and to the proofs. No contract of a public call cites it.
-use Prim.Native.Nat.{ℕ, _*_, _≤_}
+use Prim.Native.Nat.{ℕ, _*_, _/_, _≤_}
 use mathlib.Core.Path.{_≡_}
 use Rattle.circle.specs.Method.{Timed, B}
 use Rattle.street.specs.Steps.{Sound}
@@ -14,6 +14,10 @@ pub record Raised (s : Timed) (raised : ℕ) : Type 0 where
   pub sound : Sound s
   pub width : signedOf s raised ≡ B s
   pub small : raised ≤ 4 * s .cycle
+
+-- a part of a whole, rounded down
+abbrev pub portionOf : ℕ → ℕ → ℕ → ℕ
+portionOf whole part sum = whole * part / sum
 
 -- the width that a shift asks for, 0 for none
 abbrev pub shiftWidth : Shift → ℕ

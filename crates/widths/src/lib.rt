@@ -4,13 +4,13 @@ use street::Code;
 use street::Street;
 use street::Verdict;
 ghost use mathlib.Core.Path.{_≡_};
-ghost use Prim.Native.Nat.{_*_, _/_, _≤_, _<_, _^_};
+ghost use Prim.Native.Nat.{_*_, _≤_, _<_, _^_};
 ghost use lib.IntN.{pos};
 ghost use Rattle.circle.specs.Moved.{g, otherWidth, platoonWidth};
 ghost use Rattle.street.specs.Limits.{maxPlatoon};
 ghost use Rattle.street.specs.Steps.{maxHalves, timedStreet, Sound};
 ghost use Rattle.widths.specs.Moved.{platoonShift, shiftOf};
-ghost use Rattle.widths.specs.Steps.{Raised, shiftWidth, widthsOf};
+ghost use Rattle.widths.specs.Steps.{Raised, portionOf, shiftWidth, widthsOf};
 ghost use Rattle.widths.specs.Checks.{platoonCheck, widthCheck, requestCheck};
 
 // What a caller asks for: the equal plan, a width for one direction, or widths by the platoons' lengths, outbound and then inbound. All
@@ -98,7 +98,7 @@ pub fn check(s: Street, raised: u32, request: Request) -> Verdict
 // A part of a whole, rounded down.
 fn portion(whole: u32, part: u32, sum: u32) -> u32
     requires { ⌜ (whole * part < 2 ^ 32) × (1 ≤ sum) ⌝ }
-    ensures { λ r. ⌜ r ≡ whole * part / sum ⌝ }
+    ensures { λ r. ⌜ r ≡ portionOf whole part sum ⌝ }
 {
     whole * part / sum
 }
