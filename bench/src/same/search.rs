@@ -20,7 +20,7 @@ fn back(h: u32, a: u32, b: u32) -> u32 {
     }
 }
 
-/// Each signal's place on the cycle.
+/// Each signal's anchor: its red less its two sums, round the cycle.
 pub fn reduced(s: &Street) -> Places {
     let mut places = [0; MAX_SIGNALS];
     for k in 0..s.signals {

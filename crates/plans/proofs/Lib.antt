@@ -1,3 +1,4 @@
 pub mod SignedLaws
 pub mod RequestLaws
 pub mod Unique
+pub mod Examples

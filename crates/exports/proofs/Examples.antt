@@ -1,0 +1,31 @@
+-- Replies as C has them, worked out with a number of its own in each field. Assumes nothing.
+use mathlib.Core.Path.{_≡_, refl}
+use mathlib.Core.List.{[], _∷_}
+use lib.IntN.{pos, negsuc}
+use Rattle.street.specs.declared.Code.the-variants.{Speed, Offset}
+use Rattle.plans.specs.declared.Answer.the-variants as answer
+use Rattle.bands.specs.declared.Measurement.the-variants as measurement
+use Rattle.exports.specs.Flat.{flatPlan, flatMeasure, flatText}
+
+plan :
+    flatPlan (answer.Planned (record { reference = 2; b = negsuc 99; outbound = 200; inbound = 3; rounded = 1; starts = 5; ends = 15 }))
+    ≡ record { code = 0; place = 0; reference = 2; b = negsuc 99; outbound = 200; inbound = 3; rounded = 1; starts = 5; ends = 15 }
+plan = refl
+
+refusal :
+    flatPlan (answer.Refused (record { code = Speed; place = 3 }))
+    ≡ record { code = 7; place = 3; reference = 0; b = pos 0; outbound = 0; inbound = 0; rounded = 0; starts = 0; ends = 0 }
+refusal = refl
+
+measure :
+    flatMeasure (measurement.Found (record { outbound = record { width = 16; start = 17 }; inbound = record { width = 6; start = 7 } }))
+    ≡ record { code = 0; place = 0; «outbound_width» = 16; «outbound_start» = 17; «inbound_width» = 6; «inbound_start» = 7 }
+measure = refl
+
+unmeasured :
+    flatMeasure (measurement.Refused (record { code = Offset; place = 2 }))
+    ≡ record { code = 10; place = 2; «outbound_width» = 0; «outbound_start» = 0; «inbound_width» = 0; «inbound_start» = 0 }
+unmeasured = refl
+
+text : flatText (record { bytes = 49 ∷ 10 ∷ []; count = 2 }) ≡ record { count = 2; bytes = 49 ∷ 10 ∷ [] }
+text = refl
