@@ -14,7 +14,7 @@ use street::Verdict;
 ghost use Prim.Native.Nat.{_≤_};
 ghost use mathlib.Core.Path.{_≡_};
 ghost use lib.ListN.{length};
-ghost use Rattle.printed.specs.Steps.{Held};
+ghost use Rattle.sheet.specs.Steps.Held.{Held};
 ghost use Rattle.lines.specs.Steps.{maxEntries};
 
 // The most bytes that one run takes.

@@ -78,5 +78,9 @@ decimal-some x =
     (λ s. rw (one-digit 19 x s) (omega arith))
     (λ m. rw (more-digits 19 x m) (simp length-append (omega arith)))
 
+-- below ten to the k + 1 there are at most k + 1 digits
+pub at-most : (k x : ℕ) → x < 2 ^ 32 → x < 10 ^ suc k → length (decimal x) ≤ suc k
+at-most k x small h = rw (places 19 k x (omega arith) h) (few (suc k) x)
+
 pub decimal-ten : (x : ℕ) → x < 2 ^ 32 → length (decimal x) ≤ 10
-decimal-ten x h = rw (places 19 9 x (omega arith) (omega arith)) (few 10 x)
+decimal-ten x h = at-most 9 x h (omega arith)

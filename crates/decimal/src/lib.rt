@@ -1,10 +1,15 @@
-// Numbers as decimal digits, written into a list of bytes that the caller lends (01, 'The printed plan').
+// Numbers as decimal digits, written into a list of bytes that the caller lends (01, 'The printed plan' and 'The street sheet').
 ghost use Prim.Native.Nat.{_+_, _≤_};
 ghost use mathlib.Core.Path.{_≡_};
 ghost use mathlib.Core.List.{[], _∷_, _++_};
 ghost use lib.ListN.{length};
 ghost use Rattle.decimal.specs.Decimal.{decimal, signedDecimal};
 ghost use Rattle.decimal.specs.Steps.{Writes};
+
+// The bytes that end a number: within a line and at its end.
+pub const SPACE: u8 = 32;
+
+pub const LINE_END: u8 = 10;
 
 // The digit 0 and the minus sign.
 const ZERO: u8 = 48;

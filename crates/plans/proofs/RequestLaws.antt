@@ -10,7 +10,7 @@ use Rattle.circle.specs.Method.{Timed, reference, redEnd, redStart}
 use Rattle.circle.proofs.Numbers.{list-ext, length-listBelow}
 use Rattle.circle.proofs.Formulas.{Agree, B-agree, reference-agree, redEnd-agree, redStart-agree, reference-lt}
 use Rattle.street.specs.Lists.{Lists, signals}
-use Rattle.street.specs.Checks.{orNext, firstFault, planChecks}
+use Rattle.street.specs.Checks.{orNext, firstFault, planChecks, written}
 use Rattle.street.specs.Streets.{timed, m}
 use Rattle.street.specs.Steps.{streetOf, timedStreet}
 use Rattle.street.specs.declared.Street.{Street}
@@ -27,7 +27,7 @@ use Rattle.widths.proofs.WidthLaws.{check-agree, shift-agree, outbound-agree, i
 use Rattle.offsets.specs.Moved.{movedOffset}
 use Rattle.offsets.proofs.MovedLaws.{moved-agree}
 use Rattle.plans.specs.Answers.{answered}
-use Rattle.plans.specs.Requests.{movedPlan, requestChecks, written, Requested}
+use Rattle.plans.specs.Requests.{movedPlan, requestChecks, Requested}
 use Rattle.plans.specs.declared.Plan.{Plan}
 use Rattle.plans.specs.declared.Answer.the-variants as answer
 

@@ -1,15 +1,14 @@
 -- What a call with a request answers, and what it leaves in the lent offset list (01, 'The equal plan', 'Moving width' and 'Codes, in order of checking').
 use Prim.Native.Nat.{ℕ, _+_}
 use mathlib.Core.Path.{_≡_}
-use mathlib.Core.List.{List, [], _∷_, _++_}
-use lib.ListN.{length, drop}
+use mathlib.Core.List.{List, [], _∷_}
+use lib.ListN.{length}
 use Rattle.circle.specs.Method.{Timed, B, reference, redEnd, redStart}
 use Rattle.circle.specs.Over.{listBelow}
 use Rattle.street.specs.Lists.{Lists, signals}
-use Rattle.street.specs.Checks.{firstFault, planChecks}
+use Rattle.street.specs.Checks.{firstFault, planChecks, written}
 use Rattle.street.specs.Streets.{timed, m}
 use Rattle.street.specs.declared.Verdict.{Verdict}
-use Rattle.street.specs.declared.Verdict.the-variants.{Passed, Refused}
 use Rattle.widths.specs.declared.Request.{Request}
 use Rattle.widths.specs.declared.Shift.{Shift}
 use Rattle.widths.specs.Moved.{shiftOf, outboundWidth, inboundWidth}
@@ -40,11 +39,6 @@ requestChecks request l room = firstFault (planChecks l room ∷ requestCheck re
 abbrev pub requestAnswer : Request → Lists → ℕ → Answer
 requestAnswer request l room =
     answered (requestChecks request l room) (movedPlan (shiftOf request (timed l)) (timed l) (m l))
-
--- a list after a call that may write its first entries: as before where the call refused, else those entries and the rest as before
-abbrev pub written : Verdict → List ℕ → List ℕ → List ℕ
-written Passed entries before = entries ++ drop (length entries) before
-written (Refused f) entries before = before
 
 -- the lent list after the call
 abbrev pub requestAfter : Request → Lists → List ℕ → List ℕ

@@ -1,4 +1,4 @@
--- Laws of the whole way: how many entries are lent, that a sheet's arrays give back the lists that were read, and what the text is for a refusal and for a plan. A refusal's
+-- Laws of the whole way: how many entries are lent, and what the text is for a refusal and for a plan. A refusal's
 -- text has no offsets, and a plan's are the first entries of the lent list, whatever stands behind that list. Assumes nothing.
 use Prim.Native.Nat.{ℕ, _+_, _-_, _≤_, _<_}
 use mathlib.Core.Path.{_≡_, refl, sym, ap, ap₂, _∙_, subst}
@@ -6,7 +6,7 @@ use mathlib.Core.Bool.{cond}
 use mathlib.Core.List.{List, _++_}
 use native.Mathlib.Omega.{arith}
 use native.Mathlib.Decide.{decLt}
-use lib.ListN.{length, take, drop, replicate, length-append, length-drop, length-replicate, replicate-append-replicate}
+use lib.ListN.{length, take, drop, replicate, length-append, length-replicate, replicate-append-replicate}
 use lib.Seq.{length-take-le, take-append-le, take-append-seam, take-at}
 use borrow.Author.Tests.{lt-ltb, le-ltb}
 use Rattle.circle.specs.Over.{listBelow}
@@ -14,26 +14,24 @@ use Rattle.circle.proofs.Numbers.{length-listBelow}
 use Rattle.road.specs.Limits.{maxSignals}
 use Rattle.street.specs.Lists.{Lists, signals}
 use Rattle.street.specs.Streets.{timed, m}
-use Rattle.street.specs.Checks.{refuse}
-use Rattle.street.specs.declared.Code.{Code}
+use Rattle.street.specs.Checks.{refuse, written}
 use Rattle.street.specs.declared.Refusal.{Refusal}
 use Rattle.street.specs.declared.Verdict.{Verdict}
 use Rattle.street.specs.declared.Verdict.the-variants.{Passed, Refused}
-use Rattle.sheet.specs.Form.{Writable}
-use Rattle.sheet.specs.Reading.{inArray, sheetOf, refusing, Reads}
+use Rattle.sheet.specs.Reading.{listsOf, Reads}
 use Rattle.sheet.specs.declared.Reading.{Reading}
-use Rattle.sheet.proofs.ByForm.{so-too, either-way}
+use Rattle.sheet.proofs.ByForm.{so-too}
+use Rattle.sheet.proofs.Held.{lists-back, not-passing}
 use Rattle.widths.specs.declared.Request.the-variants.{Equal}
 use Rattle.widths.specs.declared.Shift.the-variants.{Unmoved}
 use Rattle.offsets.specs.Moved.{movedOffset}
 use Rattle.plans.specs.Answers.{answered}
-use Rattle.plans.specs.Requests.{movedPlan, requestChecks, requestAnswer, requestAfter, written, Requested}
+use Rattle.plans.specs.Requests.{movedPlan, requestChecks, requestAnswer, requestAfter, Requested}
 use Rattle.plans.specs.declared.Plan.{Plan}
 use Rattle.plans.specs.declared.Answer.{Answer}
 use Rattle.printed.specs.declared.Printed.{Printed}
 use Rattle.printed.specs.Text.{maxText, planLine, offsetLines, refusalLine, textOf, Prints}
 use Rattle.printed.specs.Way.{lentOf, planText, Answers, PrintsAnswer}
-use Rattle.printed.specs.Steps.{listsOf, Held}
 
 pub lent-room : (room : ℕ) → room < maxSignals → room ≡ lentOf room
 lent-room room l = ap (λ t. cond t room maxSignals) (sym (lt-ltb room maxSignals l))
@@ -99,46 +97,7 @@ plan-text l room k n r before after rest lent size clean ok =
     ∙ ap (λ (i : ℕ). textOf (requestAnswer Equal l (length before)) (take i (requestAfter Equal l before))) (sym many ∙ size)
     ∙ ap₂ (λ (i : ℕ) xs. textOf (requestAnswer Equal l i) (take (signals l) (requestAfter Equal l xs))) long start
 
--- a sheet's arrays hold its lists
-take-in-array : (n : ℕ) (xs : List ℕ) → length xs ≡ n → take n (inArray xs) ≡ xs
-take-in-array n xs e = take-at xs (drop (length xs) (replicate maxSignals 0)) n e
-
-length-in-array : (xs : List ℕ) → length xs ≤ maxSignals → length (inArray xs) ≡ maxSignals
-unfolding zeros
-length-in-array xs l =
-    omega (arith, length-append xs (drop (length xs) (zeros maxSignals)), length-drop (length xs) (zeros maxSignals), length-replicate {A = ℕ} maxSignals 0)
-
-lists-back : (l : Lists) → Writable l → listsOf (sheetOf l) ≡ l
-lists-back l ok =
-    λ i.
-    record {
-      cycle = l .cycle;
-      reds = take-in-array (signals l) (l .reds) refl i;
-      distances = take-in-array (signals l) (l .distances) (ok .distances) i;
-      outbound = take-in-array (signals l - 1) (l .outbound) (ok .outbound) i;
-      inbound = take-in-array (signals l - 1) (l .inbound) (ok .inbound) i;
-    }
-
-held : (l : Lists) → Writable l → Held (sheetOf l)
-held l ok =
-    record {
-      some = ok .some;
-      few = ok .few;
-      reds = length-in-array (l .reds) (ok .few);
-      distances = length-in-array (l .distances) (omega (arith, ok .few, ok .distances));
-      outbound = length-in-array (l .outbound) (omega (arith, ok .few, ok .outbound));
-      inbound = length-in-array (l .inbound) (omega (arith, ok .few, ok .inbound));
-    }
-
--- a refusal is no street's numbers
-not-passing : {r : Reading} (c : Code) → r .verdict ≡ Passed → r ≡ refusing c → ⊥
-not-passing {r} c p e = let z : Passed ≡ refuse c 0 = sym p ∙ ap (λ x. x .verdict) e in let y : _≡_ {A = ℕ} 0 1 = cc in omega arith
-
--- what a passed reading tells
-pub reading-held : {bytes : List ℕ} {r : Reading} → Reads bytes r → r .verdict ≡ Passed → Held (r .sheet)
-reading-held {bytes} {r} read p =
-    either-way (λ l w e. subst Held (sym (ap (λ x. x .sheet) e)) (held l w)) (λ c e. absurd (not-passing c p e)) read
-
+-- a passed reading is answered by its lists' plan
 pub passed-answers : {bytes : List ℕ} (room : ℕ) {r : Reading} → Reads bytes r → r .verdict ≡ Passed → Answers bytes room (planText (listsOf (r .sheet)) room)
 passed-answers {bytes} room {r} read p =
     so-too

@@ -1,6 +1,8 @@
 // The printed plan: an answer's text as bytes (01, 'The printed plan'). Each step writes some bytes of it into a lent list, from a place
 // on, and answers the next place.
 use bytes::copy;
+use decimal::LINE_END;
+use decimal::SPACE;
 use decimal::write_ended;
 use decimal::write_signed;
 use plans::Answer;
@@ -14,15 +16,11 @@ ghost use Prim.Native.Nat.{_+_, _≤_};
 ghost use mathlib.Core.Path.{_≡_};
 ghost use lib.ListN.{length, take};
 ghost use Rattle.road.specs.Limits.{maxSignals};
+ghost use Rattle.sheet.specs.Reading.{listsOf};
+ghost use Rattle.sheet.specs.Steps.Held.{Held};
 ghost use Rattle.decimal.specs.Steps.{Writes};
 ghost use Rattle.printed.specs.Text.{maxText, planLine, offsetLines, refusalLine, textOf, printedOf, Prints};
 ghost use Rattle.printed.specs.Way.{lentOf, planText, PrintsAnswer};
-ghost use Rattle.printed.specs.Steps.{listsOf, Held};
-
-// The bytes that end a number: within a line and at its end.
-const SPACE: u8 = 32;
-
-const LINE_END: u8 = 10;
 
 // The printed bytes and how many they are; the rest of `bytes` is 0.
 pub struct Printed {

@@ -13,3 +13,4 @@ pub mod Form
 pub mod Codes
 pub mod Counts
 pub mod ByForm
+pub mod Held

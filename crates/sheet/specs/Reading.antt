@@ -1,8 +1,8 @@
 -- What the reader answers: the numbers of a street, or a refusal (01, 'The street sheet' and 'Codes, in order of checking').
-use Prim.Native.Nat.{ℕ}
+use Prim.Native.Nat.{ℕ, _-_}
 use mathlib.Core.Path.{_≡_}
 use mathlib.Core.List.{List, [], _++_}
-use lib.ListN.{length, drop, replicate}
+use lib.ListN.{length, take, drop, replicate}
 use Rattle.road.specs.Limits.{maxSignals}
 use Rattle.street.specs.Lists.{Lists, signals, typed}
 use Rattle.street.specs.Checks.{refuse}
@@ -27,6 +27,11 @@ sheetOf l =
       outbound = inArray (l .outbound);
       inbound = inArray (l .inbound);
     }
+
+-- the lists that a sheet's arrays hold: what a caller hands on of a sheet that was read
+abbrev pub listsOf : Sheet → Lists
+listsOf s =
+    typed (s .cycle) (take (s .signals) (s .reds)) (take (s .signals) (s .distances)) (take (s .signals - 1) (s .outbound)) (take (s .signals - 1) (s .inbound))
 
 -- a sheet of which every number is 0
 abbrev pub noSheet : Sheet

@@ -5,3 +5,4 @@ pub mod Sections
 pub mod Parsed
 pub mod Filled
 pub mod Cursors
+pub mod Held

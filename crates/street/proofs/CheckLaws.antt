@@ -9,7 +9,7 @@ use borrow.Author.Tests.{lt-ltb, le-ltb, le-leb, lt-leb, leb-true, eqb-true}
 use Rattle.circle.proofs.Numbers.{cond-left, cond-right}
 use Rattle.road.specs.Limits.{minSignals, maxSignals}
 use Rattle.street.specs.Limits.{minCycle, maxCycle}
-use Rattle.street.specs.Checks.{within, unless, orNext, countCheck, cycleCheck}
+use Rattle.street.specs.Checks.{within, unless, orNext, countCheck, roomCheck, cycleCheck}
 use Rattle.street.specs.declared.Code.{Code}
 use Rattle.street.specs.declared.Code.the-variants.{Sheet, Count, Room, Cycle, Red, Distance, Speed, Platoon, Width, Offset}
 use Rattle.street.specs.Codes.{codeNumber}
@@ -62,6 +62,10 @@ counted n d o i e =
       outbound = eqb-true _ _ (cond-left _ _ rest2);
       inbound = eqb-true _ _ (cond-right (eqb o (n - 1)) _ rest2);
     }
+
+pub room-enough : (needed room : ℕ) → roomCheck needed room ≡ Passed → needed ≤ room
+unfolding roomCheck
+room-enough needed room e = leb-true needed room (passes (leb needed room) Room e)
 
 pub cycle-range : (ticks : ℕ) → cycleCheck ticks ≡ Passed → Within minCycle maxCycle ticks
 unfolding cycleCheck

@@ -4,23 +4,24 @@ use Prim.Native.Nat.{ℕ, _+_, _-_, _≤_, _<_}
 use mathlib.Core.Path.{_≡_, refl, sym, ap, ap₂, _∙_}
 use mathlib.Core.Bool.{Bool, true, false, cond, not}
 use mathlib.Core.List.{List, [], _∷_, _++_}
+use native.Mathlib.Nat.{le-refl}
 use native.Mathlib.Omega.{arith}
 use lib.ListN.{length, getD}
 use lib.Dec.{leb, ltb}
-use borrow.Author.Tests.{ltb-false, leb-false, lt-ltb, leb-true, le-leb, not-false}
+use borrow.Author.Tests.{ltb-false, leb-false, lt-ltb, le-leb, not-false}
 use Rattle.circle.specs.Over.{Found, nowhere, at, firstBelow, _or_}
 use Rattle.circle.proofs.Numbers.{first-none}
 use Rattle.road.specs.Limits.{maxSignals, maxDistance, minSpeed, maxSpeed}
 use Rattle.road.specs.Steps.{Driveable}
 use Rattle.street.specs.Limits.{minCycle, maxCycle, minRed}
 use Rattle.street.specs.Lists.{Lists, signals}
-use Rattle.street.specs.Checks.{within, faultAt, orNext, firstFault, badRed, badDistance, badSpeed, countCheck, roomCheck, cycleCheck, redCheck, distanceCheck, speedCheck, counts, openingChecks, numberChecks, planChecks}
+use Rattle.street.specs.Checks.{within, faultAt, orNext, firstFault, badRed, badDistance, badSpeed, countCheck, roomCheck, cycleCheck, redCheck, distanceCheck, speedCheck, counts, openingChecks, numberChecks, planChecks, streetChecks}
 use Rattle.street.specs.declared.Code.{Code}
-use Rattle.street.specs.declared.Code.the-variants.{Room, Red, Distance, Speed}
+use Rattle.street.specs.declared.Code.the-variants.{Red, Distance, Speed}
 use Rattle.street.specs.declared.Refusal.{Refusal}
 use Rattle.street.specs.declared.Verdict.{Verdict}
 use Rattle.street.specs.declared.Verdict.the-variants.{Passed, Refused}
-use Rattle.street.proofs.CheckLaws.{passes, Within, within-range, Counted, counted, cycle-range}
+use Rattle.street.proofs.CheckLaws.{Within, within-range, Counted, counted, room-enough, cycle-range, last-check}
 
 -- checks that passed one after the other each passed
 pub first-passed : (v w : Verdict) → orNext v w ≡ Passed → v ≡ Passed
@@ -113,6 +114,7 @@ pub record InLimits (l : Lists) (room : ℕ) : Type 0 where
   pub counts : Counted (signals l) (length (l .distances)) (length (l .outbound)) (length (l .inbound))
   pub roomy : signals l ≤ room
   pub cycle : Within minCycle maxCycle (l .cycle)
+  pub distances : (k : ℕ) → k < signals l → getD (l .distances) k 0 ≤ maxDistance
   pub reds : (k : ℕ) → k < signals l → Within minRed (l .cycle - 1) (getD (l .reds) k 0)
   pub outbound : Driveable (l .distances) (l .outbound)
   pub inbound : Driveable (l .distances) (l .inbound)
@@ -156,7 +158,6 @@ driveable ds vs ends few placed speeds =
     }
 
 pub in-limits : (l : Lists) (room : ℕ) → planChecks l room ≡ Passed → InLimits l room
-unfolding roomCheck
 in-limits l room e =
     let passed = all-passed l room e in
     let counts = counted (signals l) (length (l .distances)) (length (l .outbound)) (length (l .inbound)) (passed .counts) in
@@ -164,8 +165,9 @@ in-limits l room e =
     let few : length (l .distances) ≤ maxSignals = omega arith in
     record {
       counts = counts;
-      roomy = leb-true (signals l) room (passes (leb (signals l) room) Room (passed .roomy));
+      roomy = room-enough (signals l) room (passed .roomy);
       cycle = cycle-range (l .cycle) (passed .cycle);
+      distances = λ k h. distances-near (l .distances) (passed .distances) k (omega arith);
       reds = reds-within (l .cycle) (l .reds) (passed .reds);
       outbound = driveable (l .distances) (l .outbound) (omega arith) few (passed .distances) (λ k h. speeds k h .outbound);
       inbound =
@@ -178,3 +180,12 @@ unfolding planChecks roomCheck
 enough-room l room other e fits =
     let passed = all-passed l room e in
     simp (passed .counts, le-leb (signals l) other fits, passed .cycle, passed .reds, passed .distances, passed .speeds)
+
+-- with room for its signals a plan's checks are the street's own; so are those of a call that judges something else after them
+pub with-room : (l : Lists) → firstFault (streetChecks l) ≡ planChecks l (signals l)
+unfolding planChecks roomCheck
+with-room l = simp (le-leb (signals l) (signals l) (le-refl (signals l)))
+
+pub street-then : (l : Lists) (last : Verdict) → firstFault (streetChecks l ++ last ∷ []) ≡ orNext (planChecks l (signals l)) last
+street-then l last =
+    sym (first-of-both (streetChecks l) (last ∷ [])) ∙ ap₂ orNext (with-room l) (last-check last)

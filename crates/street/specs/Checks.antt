@@ -2,7 +2,7 @@
 use Prim.Native.Nat.{ℕ, _+_, _-_}
 use mathlib.Core.Bool.{Bool, cond, not}
 use mathlib.Core.List.{List, [], _∷_, _++_}
-use lib.ListN.{length, getD}
+use lib.ListN.{length, drop, getD}
 use lib.Dec.{leb, ltb, eqb}
 use Rattle.circle.specs.Over.{Found, nowhere, at, _and_, _or_, firstBelow}
 use Rattle.road.specs.Limits.{minSignals, maxSignals, maxDistance, minSpeed, maxSpeed}
@@ -45,9 +45,9 @@ unfoldable pub countCheck : ℕ → ℕ → ℕ → ℕ → Verdict
 countCheck n distances outbound inbound =
     unless (within minSignals maxSignals n and eqb distances n and eqb outbound (n - 1) and eqb inbound (n - 1)) Count
 
--- 3 ROOM: the lent offset list has an entry for each signal
+-- 3 ROOM: a lent list has as many entries as the call writes: an offset for each signal, or a sheet's bytes (02, 2026-01)
 unfoldable pub roomCheck : ℕ → ℕ → Verdict
-roomCheck n room = unless (leb n room) Room
+roomCheck needed room = unless (leb needed room) Room
 
 -- 4 CYCLE
 unfoldable pub cycleCheck : ℕ → Verdict
@@ -97,3 +97,12 @@ numberChecks l = redCheck (l .cycle) (l .reds) ∷ distanceCheck (l .distances) 
 -- the checks of a plan over a lent list of some room, in their order
 unfoldable pub planChecks : Lists → ℕ → Verdict
 planChecks l room = firstFault (openingChecks l room ++ numberChecks l)
+
+-- the checks of a street by itself, where nothing is lent or where the lent list is judged last (02, 2026-01)
+abbrev pub streetChecks : Lists → List Verdict
+streetChecks l = counts l ∷ cycleCheck (l .cycle) ∷ numberChecks l
+
+-- a list after a call that may write its first entries: as before where the call refused, else those entries and the rest as before
+abbrev pub written : Verdict → List ℕ → List ℕ → List ℕ
+written Passed entries before = entries ++ drop (length entries) before
+written (Refused f) entries before = before

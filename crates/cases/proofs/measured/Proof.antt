@@ -3,7 +3,7 @@ use mathlib.Core.Path.{sym}
 use native.Mathlib.Omega.{arith}
 use lib.Seq.{length-take-le}
 use borrow.Author.Needs.{needs}
-use Rattle.cases.proofs.Parts.{reds-part, distances-part, outbound-part, inbound-part}
+use Rattle.sheet.proofs.Held.{reds-part, distances-part, outbound-part, inbound-part}
 use Rattle.cases.proofs.measured.Statement.{statement}
 use Rattle.cases.proofs.measured.Tie as tie
 

@@ -1,5 +1,5 @@
 -- `cases::on_sheet` meets its contract: an accepted sheet's arrays are whole. Assumes nothing.
-use Rattle.printed.proofs.Ways.{reading-held}
+use Rattle.sheet.proofs.Held.{reading-held}
 use borrow.Author.Needs.{needs}
 use Rattle.cases.proofs.on_sheet.Statement.{statement}
 use Rattle.cases.proofs.on_sheet.Tie as tie

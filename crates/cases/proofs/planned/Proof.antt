@@ -4,7 +4,7 @@ use lib.ListN.{replicate}
 use lib.Seq.{length-take-le}
 use Rattle.road.specs.Limits.{maxSignals}
 use Rattle.printed.proofs.Ways.{lent-le, text-within}
-use Rattle.cases.proofs.Parts.{reds-part, distances-part, outbound-part, inbound-part}
+use Rattle.sheet.proofs.Held.{reds-part, distances-part, outbound-part, inbound-part}
 use borrow.Author.Needs.{needs}
 use Rattle.cases.proofs.planned.Statement.{statement}
 use Rattle.cases.proofs.planned.Tie as tie

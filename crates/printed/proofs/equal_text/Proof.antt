@@ -1,7 +1,8 @@
 -- `printed::equal_text` meets its contract: a refused reading's line, or the text of the lists that were read. Assumes nothing.
 use Prim.Native.Nat.{ℕ}
 use borrow.Author.Needs.{needs}
-use Rattle.printed.proofs.Ways.{reading-held, passed-answers, refused-answers}
+use Rattle.sheet.proofs.Held.{reading-held}
+use Rattle.printed.proofs.Ways.{passed-answers, refused-answers}
 use Rattle.printed.proofs.equal_text.Statement.{statement}
 use Rattle.printed.proofs.equal_text.Tie as tie
 

@@ -1,27 +1,18 @@
 -- `printed::planned` meets its contract: each part that is lent is within its array, and the text of the answer and the first entries is
 -- the plan's. Assumes nothing.
-use Prim.Native.Nat.{ℕ, _-_, _≤_}
-use native.Mathlib.Omega.{arith}
-use mathlib.Core.Path.{_≡_, refl, sym, ap, _∙_}
+use Prim.Native.Nat.{ℕ, _≤_}
+use mathlib.Core.Path.{refl, sym, ap, _∙_}
 use mathlib.Core.List.{List, _++_}
-use lib.ListN.{length, take, drop, replicate}
+use lib.ListN.{take, drop, replicate}
 use lib.Seq.{length-take-le}
 use borrow.Author.Needs.{needs}
 use Rattle.road.specs.Limits.{maxSignals}
-use Rattle.sheet.specs.declared.Sheet.{Sheet}
+use Rattle.sheet.specs.Reading.{listsOf}
+use Rattle.sheet.proofs.Held.{reds-part, distances-part, outbound-part, inbound-part}
 use Rattle.printed.specs.Text.{textOf, printedOf}
-use Rattle.printed.specs.Steps.{listsOf, Held}
 use Rattle.printed.proofs.Ways.{plan-text, lent-le, lent-few}
 use Rattle.printed.proofs.planned.Statement.{statement}
 use Rattle.printed.proofs.planned.Tie as tie
-
--- as many entries of a sheet's array as there are signals, or links
-module _ (s : Sheet) (held : Held s) (l : List ℕ) (whole : length l ≡ maxSignals) where
-  for-signals : s .signals ≡ length (take (s .signals) l)
-  for-signals = sym (length-take-le (s .signals) l (omega arith))
-
-  for-links : s .signals - 1 ≡ length (take (s .signals - 1) l)
-  for-links = sym (length-take-le (s .signals - 1) l (omega arith))
 
 -- once the room is known: the function's entry, and that the room is at most 32
 abbrev entry : tie.After-lent → tie.Start
@@ -42,7 +33,7 @@ array-share-prefix-reds c = search needs
 slice-aggregate-equal : tie.Need-slice-aggregate-equal
 slice-aggregate-equal c =
     let start = entry (c .before) in
-    for-signals (start .args .s) (start .pre) (start .args .s .reds) (start .pre .reds)
+    reds-part (start .args .s) (start .pre)
 
 array-share-prefix-distances : tie.Need-array-share-prefix-distances
 array-share-prefix-distances c = search needs
@@ -50,7 +41,7 @@ array-share-prefix-distances c = search needs
 slice-aggregate-equal-2 : tie.Need-slice-aggregate-equal-2
 slice-aggregate-equal-2 c =
     let start = entry (c .before .before) in
-    for-signals (start .args .s) (start .pre) (start .args .s .distances) (start .pre .distances)
+    distances-part (start .args .s) (start .pre)
 
 array-share-prefix-outbound : tie.Need-array-share-prefix-outbound
 array-share-prefix-outbound c = search needs
@@ -58,7 +49,7 @@ array-share-prefix-outbound c = search needs
 slice-aggregate-equal-3 : tie.Need-slice-aggregate-equal-3
 slice-aggregate-equal-3 c =
     let start = entry (c .before .before .before) in
-    for-links (start .args .s) (start .pre) (start .args .s .outbound) (start .pre .outbound)
+    outbound-part (start .args .s) (start .pre)
 
 array-share-prefix-inbound : tie.Need-array-share-prefix-inbound
 array-share-prefix-inbound c = search needs
@@ -66,7 +57,7 @@ array-share-prefix-inbound c = search needs
 slice-aggregate-equal-4 : tie.Need-slice-aggregate-equal-4
 slice-aggregate-equal-4 c =
     let start = entry (c .before .before .before .before) in
-    for-links (start .args .s) (start .pre) (start .args .s .inbound) (start .pre .inbound)
+    inbound-part (start .args .s) (start .pre)
 
 array-borrow-prefix-offsets : tie.Need-array-borrow-prefix-offsets
 array-borrow-prefix-offsets c = most (c .before .before .before .before)
@@ -96,7 +87,7 @@ returns c =
     ∙ ap (λ (n : ℕ). printedOf (textOf (equal .result) (take n (after ++ rest)))) (lent-few (s .signals) (start .pre .few))
     ∙ ap printedOf
     (plan-text (listsOf s) (start .args .room) k (s .signals) (equal .result) (take k zeros) after rest (lent .lent .ensures)
-    (for-signals s (start .pre) (s .reds) (start .pre .reds)) refl (equal .ensures))
+    (reds-part s (start .pre)) refl (equal .ensures))
 
 pub planned-spec : {M : Type 1} → statement M
 planned-spec =

@@ -11,7 +11,7 @@ use Rattle.circle.specs.Method.{Timed, reference, redEnd, redStart}
 use Rattle.circle.specs.Moved.{inRange}
 use Rattle.circle.proofs.Numbers.{getD-listBelow, length-listBelow}
 use Rattle.street.specs.Lists.{Lists, signals}
-use Rattle.street.specs.Checks.{orNext, planChecks}
+use Rattle.street.specs.Checks.{orNext, planChecks, written}
 use Rattle.street.specs.Streets.{m, timed}
 use Rattle.street.specs.declared.Code.the-variants.{Width}
 use Rattle.street.specs.declared.Verdict.{Verdict}
@@ -27,7 +27,7 @@ use Rattle.widths.specs.declared.Shift.the-variants.{Unmoved}
 use Rattle.offsets.specs.Moved.{movedOffset}
 use Rattle.offsets.proofs.MovedLaws.{unmoved-offset}
 use Rattle.plans.specs.Answers.{planVerdict, planNumbers, answered}
-use Rattle.plans.specs.Requests.{movedPlan, requestChecks, written, Requested}
+use Rattle.plans.specs.Requests.{movedPlan, requestChecks, Requested}
 use Rattle.plans.specs.declared.Plan.{Plan}
 use Rattle.plans.specs.declared.Answer.{Answer}
 use Rattle.promises.specs.Exact.{roundedWays, exactWays}
