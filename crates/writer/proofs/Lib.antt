@@ -1,0 +1,6 @@
+pub mod Lines
+pub mod Sizes
+pub mod Replies
+pub mod RoundTrips
+pub mod Unique
+pub mod Examples
