@@ -11,11 +11,12 @@ use sheet::Sheet;
 use street::Refusal;
 use street::Street;
 use street::Verdict;
+use writer::Writing;
 ghost use Prim.Native.Nat.{_≤_};
 ghost use mathlib.Core.Path.{_≡_};
 ghost use lib.ListN.{length};
 ghost use Rattle.sheet.specs.Steps.Held.{Held};
-ghost use Rattle.lines.specs.Steps.{maxEntries};
+ghost use Rattle.lines.specs.Steps.{maxEntries, maxRoom};
 
 // The most bytes that one run takes.
 const MAX_INPUT: usize = 65_536;
@@ -106,9 +107,34 @@ fn planned(s: Sheet, request: Request, room: usize)
     show(printed::answer_text(answer, n, offsets));
 }
 
-// What is asked of a sheet's numbers, a plan or else a measure, or the reader's refusal.
+// A sheet's own bytes, written anew from its numbers into a list of some room.
+fn rewritten(s: Sheet, room: usize)
+    requires { ⌜ Held s × (room ≤ maxRoom) ⌝ }
+{
+    let n = s.signals;
+    let links = n - 1;
+    let reds = s.reds;
+    let distances = s.distances;
+    let outbound = s.outbound;
+    let inbound = s.inbound;
+    let mut bytes = [0u8; Line::MAX_BYTES];
+    let writing = writer::write(
+        s.cycle,
+        &reds[..n],
+        &distances[..n],
+        &outbound[..links],
+        &inbound[..links],
+        &mut bytes[..room],
+    );
+    match writing {
+        Writing::Refused(f) => show_refusal(f),
+        Writing::Wrote(count) => put(&bytes[..count]),
+    }
+}
+
+// What is asked of a sheet's numbers, a plan, the sheet's own bytes or else a measure, or the reader's refusal.
 fn on_sheet(bytes: &[u8], call: Call, line: Line)
-    requires { ⌜ (line .count ≤ maxEntries) × (length (line .numbers) ≡ maxEntries) ⌝ }
+    requires { ⌜ (line .room ≤ maxRoom) × (line .count ≤ maxEntries) × (length (line .numbers) ≡ maxEntries) ⌝ }
 {
     let reading = sheet::read(bytes);
     let verdict = reading.verdict;
@@ -119,6 +145,8 @@ fn on_sheet(bytes: &[u8], call: Call, line: Line)
             let numbers = line.numbers;
             if let Call::Plan(request) = call {
                 planned(s, request, line.room);
+            } else if let Call::Write = call {
+                rewritten(s, line.room);
             } else {
                 measured(s, line.count, numbers);
             }

@@ -1,16 +1,17 @@
-// A request line: what it asks for, and how many entries are lent.
+// A request line: what it asks for, and how long a list is lent, of offsets or of bytes.
 use street::Street;
 use widths::Request;
 ghost use Prim.Native.Nat.{_≤_};
 ghost use lib.ListN.{length};
 ghost use mathlib.Core.Path.{_≡_};
-ghost use Rattle.lines.specs.Steps.{maxEntries};
+ghost use Rattle.lines.specs.Steps.{maxEntries, maxRoom};
 
-// What a line asks for: a plan, or the measure of its numbers as offsets. A line that is not served is bad.
+// What a line asks for: a plan, the measure of its numbers as offsets, or the sheet's own bytes. A line that is not served is bad.
 pub enum Call {
     Bad,
     Plan(Request),
     Measure,
+    Write,
 }
 
 // A request line from its word on: whether it is formed as it should be, how many entries are lent, its numbers, of which the first
@@ -24,8 +25,17 @@ pub struct Line {
 }
 
 impl Line {
-    // The longest lent list that a line may name, and the most of its numbers that are kept.
+    // The longest lent list of offsets that a line may name, and the most of its numbers that are kept.
     pub const MAX_ENTRIES: usize = 64;
+    // The longest lent list of bytes that a line may name.
+    pub const MAX_BYTES: usize = 4_096;
+}
+
+// What is lent for a line: nothing, a list of offsets or a list of bytes.
+enum Lent {
+    Nothing,
+    Offsets,
+    Bytes,
 }
 
 // A line, and what it asks for.
@@ -135,8 +145,30 @@ fn numbers(bytes: &[u8], from: usize) -> Listed
     }
 }
 
+// How many entries are lent where a line names no number.
+fn usual_room(lent: Lent) -> usize
+    ensures { λ r. ⌜ r ≤ maxRoom ⌝ }
+{
+    match lent {
+        Lent::Nothing => 0,
+        Lent::Offsets => Street::MAX_SIGNALS,
+        Lent::Bytes => Line::MAX_BYTES,
+    }
+}
+
+// The most entries that a line may name.
+fn most_room(lent: Lent) -> usize
+    ensures { λ r. ⌜ r ≤ maxRoom ⌝ }
+{
+    match lent {
+        Lent::Nothing => 0,
+        Lent::Offsets => Line::MAX_ENTRIES,
+        Lent::Bytes => Line::MAX_BYTES,
+    }
+}
+
 fn no_ending() -> Ending
-    ensures { λ r. ⌜ r .at ≤ 0 ⌝ }
+    ensures { λ r. ⌜ (r .at ≤ 0) × (r .room ≤ 0) ⌝ }
 {
     Ending {
         good: false,
@@ -145,20 +177,20 @@ fn no_ending() -> Ending
     }
 }
 
-// The end of the line at an index: at once, or after the number of entries where one may be named.
-fn line_end(bytes: &[u8], from: usize, lends: bool) -> Ending
+// The end of the line at an index: at once, or after the number of entries where something is lent.
+fn line_end(bytes: &[u8], from: usize, lent: Lent) -> Ending
     requires { ⌜ from ≤ length (now bytes) ⌝ }
-    ensures { λ r. ⌜ r .at ≤ length (now (bytes .entry)) ⌝ }
+    ensures { λ r. ⌜ (r .at ≤ length (now (bytes .entry))) × (r .room ≤ maxRoom) ⌝ }
 {
     let plain = past(bytes, from, b"\n");
     if plain > 0 {
         return Ending {
             good: true,
-            room: Street::MAX_SIGNALS,
+            room: usual_room(lent),
             at: plain,
         };
     }
-    if !lends {
+    if let Lent::Nothing = lent {
         return no_ending();
     }
     let named = past(bytes, from, b" room ");
@@ -170,7 +202,7 @@ fn line_end(bytes: &[u8], from: usize, lends: bool) -> Ending
         return no_ending();
     }
     let room = number.value as usize;
-    if room > Line::MAX_ENTRIES {
+    if room > most_room(lent) {
         return no_ending();
     }
     let end = past(bytes, number.at, b"\n");
@@ -182,14 +214,14 @@ fn line_end(bytes: &[u8], from: usize, lends: bool) -> Ending
 }
 
 // A line with so many numbers.
-fn line_from(bytes: &[u8], from: usize, least: usize, most: usize, lends: bool) -> Line
+fn line_from(bytes: &[u8], from: usize, least: usize, most: usize, lent: Lent) -> Line
     requires { ⌜ from ≤ length (now bytes) ⌝ }
-    ensures { λ r. ⌜ (r .at ≤ length (now (bytes .entry))) × (r .count ≤ maxEntries) × (length (r .numbers) ≡ maxEntries) ⌝ }
+    ensures { λ r. ⌜ (r .at ≤ length (now (bytes .entry))) × (r .room ≤ maxRoom) × (r .count ≤ maxEntries) × (length (r .numbers) ≡ maxEntries) ⌝ }
 {
     let list = numbers(bytes, from);
     let count = list.count;
     let values = list.numbers;
-    let end = line_end(bytes, list.at, lends);
+    let end = line_end(bytes, list.at, lent);
     Line {
         good: end.good && least <= count && count <= most,
         room: end.room,
@@ -201,7 +233,7 @@ fn line_from(bytes: &[u8], from: usize, least: usize, most: usize, lends: bool) 
 
 // A line's call, where the line is formed as it should be.
 fn with_call(line: Line, call: Call) -> Asked
-    ensures { λ r. ⌜ (r .line .at ≡ line .at) × (r .line .count ≡ line .count) × (r .line .numbers ≡ line .numbers) ⌝ }
+    ensures { λ r. ⌜ (r .line .at ≡ line .at) × (r .line .room ≡ line .room) × (r .line .count ≡ line .count) × (r .line .numbers ≡ line .numbers) ⌝ }
 {
     if line.good {
         return Asked { call, line };
@@ -212,41 +244,52 @@ fn with_call(line: Line, call: Call) -> Asked
     }
 }
 
-// The request of a case.
-pub fn request(case: &[u8]) -> Asked
-    ensures { λ r. ⌜ (r .line .at ≤ length (now (case .entry))) × (r .line .count ≤ maxEntries) × (length (r .line .numbers) ≡ maxEntries) ⌝ }
+// A request for a plan. A line with none of its words is bad.
+fn plan_asked(case: &[u8]) -> Asked
+    ensures { λ r. ⌜ (r .line .at ≤ length (now (case .entry))) × (r .line .room ≤ maxRoom) × (r .line .count ≤ maxEntries) × (length (r .line .numbers) ≡ maxEntries) ⌝ }
 {
     let equal = past(case, 0, b"equal");
     if equal > 0 {
         return with_call(
-            line_from(case, equal, 0, 0, true),
+            line_from(case, equal, 0, 0, Lent::Offsets),
             Call::Plan(Request::Equal),
         );
     }
     let outbound = past(case, 0, b"outbound");
     if outbound > 0 {
-        let rest = line_from(case, outbound, 1, 1, true);
+        let rest = line_from(case, outbound, 1, 1, Lent::Offsets);
         let numbers = rest.numbers;
         return with_call(rest, Call::Plan(Request::Outbound(numbers[0])));
     }
     let inbound = past(case, 0, b"inbound");
     if inbound > 0 {
-        let rest = line_from(case, inbound, 1, 1, true);
+        let rest = line_from(case, inbound, 1, 1, Lent::Offsets);
         let numbers = rest.numbers;
         return with_call(rest, Call::Plan(Request::Inbound(numbers[0])));
     }
     let platoons = past(case, 0, b"platoons");
     if platoons > 0 {
-        let rest = line_from(case, platoons, 2, 2, true);
+        let rest = line_from(case, platoons, 2, 2, Lent::Offsets);
         let numbers = rest.numbers;
         return with_call(rest, Call::Plan(Request::Platoons(numbers[0], numbers[1])));
     }
+    with_call(line_from(case, 0, 0, 0, Lent::Nothing), Call::Bad)
+}
+
+// The request of a case.
+pub fn request(case: &[u8]) -> Asked
+    ensures { λ r. ⌜ (r .line .at ≤ length (now (case .entry))) × (r .line .room ≤ maxRoom) × (r .line .count ≤ maxEntries) × (length (r .line .numbers) ≡ maxEntries) ⌝ }
+{
     let measure = past(case, 0, b"measure");
     if measure > 0 {
         return with_call(
-            line_from(case, measure, 0, Line::MAX_ENTRIES, false),
+            line_from(case, measure, 0, Line::MAX_ENTRIES, Lent::Nothing),
             Call::Measure,
         );
     }
-    with_call(line_from(case, 0, 0, 0, false), Call::Bad)
+    let write = past(case, 0, b"write");
+    if write > 0 {
+        return with_call(line_from(case, write, 0, 0, Lent::Bytes), Call::Write);
+    }
+    plan_asked(case)
 }
