@@ -1,17 +1,21 @@
 //! The program `cases` as a model: many requests in one input, each with its sheet, and a reply to each.
 
 use crate::moved::{plan, Ask};
-use crate::printed::{measure_prints, printed};
+use crate::printed::{measure_prints, printed, write_prints};
 use crate::sheet::read;
 use crate::street::MAX_SIGNALS;
 
 pub const LARGEST_INPUT: usize = 65_536;
 pub const LARGEST_ROOM: usize = 64;
 
+/// The longest list of bytes that is lent for a sheet, and the one that is lent where the line names none.
+pub const SHEET_ROOM: usize = 4_096;
+
 #[derive(Clone, Debug, PartialEq)]
 pub enum Request {
     Plan { ask: Ask, room: usize },
     Measure { offsets: Vec<i64> },
+    Write { room: usize },
 }
 
 /// A number of a request line: digits alone, and below 2^32.
@@ -20,13 +24,11 @@ fn number(word: &str) -> Option<i64> {
     word.parse().ok().filter(|&value: &i64| digits && value < 1 << 32)
 }
 
-/// Takes `room K` off the end of a request's words, or gives the length that stands without it.
-fn room(words: &[&str]) -> Option<usize> {
+/// The length of the lent list by the words at a request's end: `room K`, or the usual one where there are none.
+fn room(words: &[&str], usual: usize, largest: usize) -> Option<usize> {
     match words {
-        [] => Some(MAX_SIGNALS),
-        ["room", length] => {
-            number(length).map(|length| length as usize).filter(|&length| length <= LARGEST_ROOM)
-        }
+        [] => Some(usual),
+        ["room", length] => number(length).map(|length| length as usize).filter(|&length| length <= largest),
         _ => None,
     }
 }
@@ -44,12 +46,17 @@ pub fn ask<'a>(words: &'a [&'a str]) -> Option<(Ask, &'a [&'a str])> {
 
 pub fn request(line: &[u8]) -> Option<Request> {
     let words: Vec<&str> = std::str::from_utf8(line).ok()?.split(' ').collect();
-    if let ["measure", rest @ ..] = &words[..] {
-        let offsets = rest.iter().map(|word| number(word)).collect::<Option<Vec<i64>>>()?;
-        return Some(Request::Measure { offsets });
+    match &words[..] {
+        ["measure", rest @ ..] => {
+            let offsets = rest.iter().map(|word| number(word)).collect::<Option<Vec<i64>>>()?;
+            Some(Request::Measure { offsets })
+        }
+        ["write", rest @ ..] => room(rest, SHEET_ROOM, SHEET_ROOM).map(|room| Request::Write { room }),
+        words => {
+            let (ask, rest) = ask(words)?;
+            room(rest, MAX_SIGNALS, LARGEST_ROOM).map(|room| Request::Plan { ask, room })
+        }
     }
-    let (ask, rest) = ask(&words)?;
-    room(rest).map(|room| Request::Plan { ask, room })
 }
 
 /// The reply to one case, without the empty line that follows it.
@@ -61,6 +68,7 @@ pub fn reply(case: &[u8]) -> String {
             printed(&read(sheet).and_then(|street| plan(&street, ask, room)))
         }
         Some((Request::Measure { offsets }, sheet)) => measure_prints(sheet, &offsets),
+        Some((Request::Write { room }, sheet)) => write_prints(sheet, room),
         None => "bad request\n".to_string(),
     }
 }

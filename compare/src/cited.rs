@@ -8,10 +8,11 @@ use std::collections::{BTreeMap, BTreeSet};
 use std::path::Path;
 
 /// The functions that a user calls, by their crate; those for C are found by their mark.
-const CALLS: [(&str, &[&str]); 5] = [
+const CALLS: [(&str, &[&str]); 6] = [
     ("plans", &["plan_for", "equal", "outbound", "inbound", "platoons"]),
     ("bands", &["measure"]),
     ("sheet", &["read"]),
+    ("writer", &["write"]),
     ("printed", &["equal_text"]),
     ("plan", &["send"]),
 ];
@@ -20,6 +21,9 @@ const FOR_C: &str = "extern \"C\" fn ";
 
 /// The file that states what is demanded of the replies.
 pub const DEMANDS: &str = "promises/specs/Replies.antt";
+
+/// The file that states what a written sheet is worth.
+pub const ROUND_TRIPS: &str = "writer/specs/RoundTrips.antt";
 
 /// A definition by its file and its place there.
 pub type Id = (usize, usize);

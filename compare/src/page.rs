@@ -1,8 +1,10 @@
-//! A page of `docs/`: its tables by their header row, and its sheets with what `plan` prints for them.
+//! A page of `docs/`: its tables by their header row, and its sheets with what `plan` prints for them; and the sample
+//! sheets of `sheets/`.
 
 use crate::run::{repository, text};
 use crate::sheet::read;
 use crate::street::Street;
+use std::collections::BTreeMap;
 use std::fs;
 
 pub struct Page {
@@ -47,6 +49,17 @@ fn bytes(shown: &str) -> Vec<u8> {
 /// The words in code style of a line, each with a line end.
 pub fn coded(line: &str) -> String {
     line.split('`').skip(1).step_by(2).map(|word| format!("{word}\n")).collect()
+}
+
+/// The sample sheets by the table of sheets/README.md, whose rows give file, meaning, first line and offsets: each file's
+/// name, and what `plan` prints for it.
+pub fn listed() -> BTreeMap<String, String> {
+    let row = |line: &str| {
+        let cells = cells(line);
+        let lines = [cells[2].as_str()].into_iter().chain(cells[3].split_whitespace());
+        (cells[0].clone(), lines.map(|line| format!("{line}\n")).collect::<String>())
+    };
+    text("sheets/README.md").lines().filter(|line| line.starts_with("| `")).map(row).collect()
 }
 
 /// The bytes of a sheet of `sheets/`.

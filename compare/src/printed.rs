@@ -1,8 +1,8 @@
-//! The text that a program prints for a plan, measured bands or a refusal, and a plan read back from it.
+//! The text that a program prints for a plan, measured bands, a written sheet or a refusal, and a plan read back from it.
 
 use crate::bands::{measured, Band};
 use crate::equal::{equal, Plan};
-use crate::sheet::read;
+use crate::sheet::{read, written};
 use crate::street::{Refusal, MAX_SIGNALS};
 
 pub fn printed(reply: &Result<Plan, Refusal>) -> String {
@@ -39,6 +39,14 @@ pub fn plan_in(text: &str) -> Option<Plan> {
 pub fn measure_prints(sheet: &[u8], offsets: &[i64]) -> String {
     match read(sheet).and_then(|street| measured(&street, offsets)) {
         Ok((Band { width, start }, back)) => format!("{width} {start} {} {}\n", back.width, back.start),
+        Err(refusal) => refused(&refusal),
+    }
+}
+
+/// What a sheet gets where it is to be written again, into a lent list of `room` bytes: its street's sheet.
+pub fn write_prints(sheet: &[u8], room: usize) -> String {
+    match read(sheet).and_then(|street| written(&street, room)) {
+        Ok(sheet) => String::from_utf8(sheet).expect("a written sheet is digits, spaces and line ends"),
         Err(refusal) => refused(&refusal),
     }
 }

@@ -49,6 +49,21 @@ fn fresh(program: &str) {
     );
 }
 
+/// What `ask` says last, whatever the answer is.
+pub const TESTED: &str =
+    "ask: the answer is the proved library's; that it was asked for and printed so is tested, not proved\n";
+
+/// Holds `ask write` on a sheet to how `plan` ended on it, and tells where it ends otherwise. A refusal is printed and
+/// explained alike; a sheet that has a plan is printed as it stands, beside the same size.
+pub fn written_otherwise(sheet: &[u8], plan: &Ended) -> Option<String> {
+    let written = script("ask", &["write"], sheet);
+    let under_its_name = |line: &str| line.replacen("plan: ", "ask: ", 1) + "\n";
+    let said = plan.said.lines().map(under_its_name).collect::<String>() + TESTED;
+    let printed = if plan.status == Some(1) { plan.printed.as_bytes() } else { sheet };
+    let same = written.status == plan.status && written.printed.as_bytes() == printed && written.said == said;
+    (!same).then(|| format!("{}: {written:?}, where `plan` ended as {plan:?}", sheet.escape_ascii()))
+}
+
 /// What the scripts say of a sheet, given what the program answered to a request.
 pub fn look(sheet: &[u8], code: i64, place: i64, request: &str) -> String {
     let listed: String = sheet.chunks(16).map(numbers).collect();

@@ -114,3 +114,17 @@ pub fn write_counts(street: &Street, signals: usize, links: usize) -> Vec<u8> {
 pub fn write(street: &Street) -> Vec<u8> {
     write_counts(street, street.signals(), street.outbound.len())
 }
+
+/// The sheet that is written into a lent list of `room` bytes, or the first fault: of the counts, of the numbers in the
+/// order of their codes, and last of all a list that is shorter than the sheet.
+pub fn written(street: &Street, room: usize) -> Result<Vec<u8>, Refusal> {
+    if let Some(refusal) = street.count_fault().or_else(|| street.range_fault()) {
+        return Err(refusal);
+    }
+    let sheet = write(street);
+    if room < sheet.len() {
+        Err(refusal(3, 0))
+    } else {
+        Ok(sheet)
+    }
+}

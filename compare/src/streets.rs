@@ -1,7 +1,7 @@
 //! Random streets that no check refuses, of every kind that the rules tell apart.
 
 use crate::random::Random;
-use crate::street::{Street, MAX_DISTANCE, SPEED};
+use crate::street::{Street, CYCLE, MAX_DISTANCE, MAX_SIGNALS, SPEED};
 
 pub fn street(random: &mut Random) -> Street {
     match random.below(6) {
@@ -15,6 +15,36 @@ pub fn street(random: &mut Random) -> Street {
 pub fn sized(random: &mut Random, n: usize, cycle: i64) -> Street {
     let (outbound, inbound) = speeds(random, n - 1);
     Street { cycle, reds: reds(random, n, cycle), distances: distances(random, n), outbound, inbound }
+}
+
+/// The street with every number at the greatest that the limits allow, whose sheet is the longest.
+pub fn greatest() -> Street {
+    let (n, links) = (MAX_SIGNALS as i64, MAX_SIGNALS - 1);
+    Street {
+        cycle: CYCLE.1,
+        reds: vec![CYCLE.1 - 1; MAX_SIGNALS],
+        distances: (MAX_DISTANCE - n + 1..=MAX_DISTANCE).collect(),
+        outbound: vec![SPEED.1; links],
+        inbound: vec![SPEED.1; links],
+    }
+}
+
+/// A street whose numbers have as many digits as the greatest have.
+pub fn most_digits(random: &mut Random, n: usize) -> Street {
+    let (cycle, step) = (random.within(1_001, CYCLE.1), (MAX_DISTANCE - 10_000_000) / n as i64);
+    let mut speeds = || (1..n).map(|_| random.within(10_000, SPEED.1)).collect::<Vec<i64>>();
+    let (outbound, inbound) = (speeds(), speeds());
+    let reds = (0..n).map(|_| random.within(1_000, cycle - 1)).collect();
+    let along = |k: i64| 10_000_000 + k * step - random.within(0, step - 1);
+    Street { cycle, reds, distances: (1..=n as i64).map(along).collect(), outbound, inbound }
+}
+
+/// A street of at most ten signals whose numbers have as few digits as the least have.
+pub fn fewest_digits(random: &mut Random, n: usize) -> Street {
+    let mut speeds = || (1..n).map(|_| random.within(SPEED.0, 9_999)).collect::<Vec<i64>>();
+    let (outbound, inbound) = (speeds(), speeds());
+    let reds = (0..n).map(|_| random.within(1, 9)).collect();
+    Street { cycle: random.within(CYCLE.0, 99), reds, distances: (0..n as i64).collect(), outbound, inbound }
 }
 
 fn signals(random: &mut Random) -> usize {

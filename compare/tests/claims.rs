@@ -1,7 +1,7 @@
 //! docs/CLAIMS.md held to the repository: each file that it names is there, each must-fail edit has its row and its twin,
 //! and as many lines are cited as it says.
 
-use compare::cited::{is_steps, total, House, Part, DEMANDS};
+use compare::cited::{is_steps, total, House, Part, DEMANDS, ROUND_TRIPS};
 use compare::page::{coded, Page};
 use compare::run::{repository, text};
 use std::fs;
@@ -85,16 +85,17 @@ fn every_edit_has_a_twin_at_its_places() {
     }
 }
 
-/// What the public contracts cite of each file of specs/, and what the demands cite.
-fn cited() -> [Vec<Part>; 2] {
+/// What the public contracts cite of each file of specs/, what the demands cite, and what the round trips do.
+fn cited() -> [Vec<Part>; 3] {
     let house = House::read(repository());
     let (called, missing) = house.contracts(repository());
     assert!(missing.is_empty(), "there is no {missing:?}");
-    [called, house.all_of(&[DEMANDS])].map(|roots| house.parts(&house.closure(&roots)))
+    [called, house.all_of(&[DEMANDS]), house.all_of(&[ROUND_TRIPS])]
+        .map(|roots| house.parts(&house.closure(&roots)))
 }
 
 #[test]
-fn no_contract_and_no_demand_cites_a_step() {
+fn no_contract_and_no_promise_cites_a_step() {
     let cited = cited();
     let steps = cited.iter().flatten().filter(|part| is_steps(part));
     let (unseen, seen): (Vec<&Part>, Vec<&Part>) = steps.partition(|part| part.cited == 0);
@@ -107,6 +108,6 @@ fn as_many_lines_are_cited_as_the_page_says() {
     let page = Page::open("CLAIMS.md").text.split_whitespace().collect::<Vec<&str>>().join(" ");
     let told = page.split(opening).nth(1).and_then(|rest| rest.split(" lines").next());
     let told = told.unwrap_or_else(|| panic!("the page does not say: {opening}N and M lines"));
-    let [contracts, demands] = cited().map(|parts| total(&parts));
+    let [contracts, demands, _] = cited().map(|parts| total(&parts));
     assert_eq!(told.replace(',', ""), format!("{contracts} and {demands}"));
 }

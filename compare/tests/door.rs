@@ -1,10 +1,11 @@
 //! The scripts at the door, started as people start them: what is printed and said, how they end, what they do with an
 //! answer that cannot be written, and that they end what they have started.
 
-use compare::page::{coded, Page};
+use compare::page::{coded, listed, sheet, Page};
 use compare::run::{repository, text};
-use compare::scripts::{bash, ended, script, Ended, Folder};
+use compare::scripts::{bash, ended, script, written_otherwise, Ended, Folder, TESTED};
 use compare::sheet::STREET_A;
+use compare::trial::in_parallel;
 use std::fs;
 use std::os::unix::fs::PermissionsExt;
 use std::process::{Command, Stdio};
@@ -59,7 +60,14 @@ fn words_that_cannot_be_taken_are_answered_with_why() {
         ("install", vec!["a", "b"], "install: one folder is asked for, and 2 words were given\n"),
         ("install", vec!["-x"], "install: there is no option -x; a folder of that name is typed after --\n"),
         ("ask", vec![], "ask: no request is typed\n"),
-        ("ask", vec!["equals"], "ask: there is no request equals; there are equal, outbound"),
+        (
+            "ask",
+            vec!["equals"],
+            "ask: there is no request equals; there are equal, outbound, inbound, platoons, measure and write\n",
+        ),
+        ("ask", vec!["writes"], "ask: there is no request writes; there are equal, outbound"),
+        ("ask", vec!["write", "5", "a"], "ask: one street sheet is read, and here are 2: 5 a\n"),
+        ("ask", vec!["write", "room", "40", "a"], "ask: one street sheet is read, and here are 3: room 40 a\n"),
         ("ask", vec!["outbound"], "ask: outbound lacks a number\n"),
         ("ask", vec!["outbound", "-80"], "ask: outbound lacks a number, since -80 is none"),
         ("ask", vec!["platoons", "30", "x"], "ask: platoons 30 lacks a number, since x is none"),
@@ -86,6 +94,9 @@ fn what_cannot_be_read_or_made_is_said_to_be_that() {
     let inputs = [
         ("./plan <&-", "standard input is closed"),
         ("./ask equal <&-", "standard input is closed"),
+        ("./ask write <&-", "standard input is closed"),
+        ("./ask write docs", "docs is a folder, not a street sheet"),
+        ("./ask write 5", "there is no file 5"),
         ("./plan <docs", "the street sheet cannot be read: Is a directory"),
         ("./plan docs", "docs is a folder, not a street sheet"),
         ("./plan no-such-sheet", "there is no file no-such-sheet"),
@@ -102,6 +113,7 @@ fn a_plan_that_is_lost_is_no_success() {
     expect("plan", &bash("./plan -q sheets/street-a.txt >/dev/full"), 2, "", &format!("plan: {lost}"));
     expect("a refusal", &bash("./plan sheets/refused-4-cycle-too-long.txt >/dev/full"), 2, "", lost);
     expect("ask", &bash("./ask outbound 80 sheets/street-a.txt >/dev/full"), 2, "", &format!("ask: {lost}"));
+    expect("a sheet", &bash("./ask write sheets/street-a.txt >/dev/full"), 2, "", &format!("ask: {lost}"));
     let closed = "the answer cannot be written: Bad file descriptor\n";
     expect("no output", &bash("./plan sheets/street-a.txt >&-"), 2, "", closed);
     // The programs themselves have no exit status; they say it, and the scripts take that for a loss.
@@ -152,7 +164,7 @@ fn the_pages_tables_can_be_asked_as_they_stand() {
         let offsets = row[3].split_whitespace().map(|offset| format!("{offset}\n"));
         ask_row(&row[0], &row[1], &format!("{}\n{}", row[2], offsets.collect::<String>()));
     }
-    assert_eq!((lines.len(), paper.len()), (22, 18));
+    assert_eq!((lines.len(), paper.len()), (23, 18));
 }
 
 #[test]
@@ -162,9 +174,15 @@ fn the_commands_of_the_first_page_work() {
     let starts = |line: &&str| line.starts_with("    ./plan ") || line.starts_with("    ./ask ");
     let commands: Vec<String> = page.lines().filter(starts).map(command).collect();
     let words: Vec<&str> = commands.iter().filter_map(|line| line.split(' ').nth(1)).collect();
-    assert_eq!(words, ["sheets/street-a.txt", "outbound", "platoons", "measure"]);
-    let printed =
-        ["1 60 60 60 0\n0\n10\n", "1 60 80 40 0\n180\n10\n", "1 60 90 30 0\n170\n10\n", "60 40 60 60\n"];
+    assert_eq!(words, ["sheets/street-a.txt", "outbound", "platoons", "measure", "write"]);
+    let sheet = text("sheets/street-a.txt");
+    let printed = [
+        "1 60 60 60 0\n0\n10\n",
+        "1 60 80 40 0\n180\n10\n",
+        "1 60 90 30 0\n170\n10\n",
+        "60 40 60 60\n",
+        &sheet,
+    ];
     for (command, printed) in commands.iter().zip(printed) {
         expect(command, &bash(command), 0, printed, "a cycle of 10 s");
     }
@@ -175,8 +193,7 @@ fn the_commands_of_the_first_page_work() {
 #[test]
 fn what_is_asked_is_said_to_be_tested_and_refusals_are_explained() {
     let a = "sheets/street-a.txt";
-    let tested = "that it was asked for and printed so is tested, not proved\n";
-    expect("ask", &script("ask", &["outbound", "80", a], b""), 0, "1 60 80 40 0\n180\n10\n", tested);
+    expect("ask", &script("ask", &["outbound", "80", a], b""), 0, "1 60 80 40 0\n180\n10\n", TESTED);
     let refusals = [
         (
             vec!["outbound", "101", a],
@@ -197,6 +214,7 @@ fn what_is_asked_is_said_to_be_tested_and_refusals_are_explained() {
             "measure takes an offset for each signal, 2 here, and was given 1",
         ),
         (vec!["equal", "sheets/refused-2-33-signals.txt"], "refused 2 0\n", "line 3 has \"33\""),
+        (vec!["write", "sheets/refused-2-33-signals.txt"], "refused 2 0\n", "line 3 has \"33\""),
     ];
     for (words, printed, said) in refusals {
         expect(&format!("{words:?}"), &script("ask", &words, b""), 1, printed, said);
@@ -209,6 +227,43 @@ fn what_is_asked_is_said_to_be_tested_and_refusals_are_explained() {
         "refused 1 0\n",
         "line 4 should have the distance and the red of signal 1 of 1, and has \"0 240<0>\"",
     );
+}
+
+#[test]
+fn a_sheet_is_written_as_it_stands_or_refused_as_its_plan_is() {
+    let street_a = String::from_utf8_lossy(STREET_A);
+    let size = format!("{}{TESTED}", SIZE_A.replace("plan: ", "ask: "));
+    expect("a file", &script("ask", &["write", "sheets/street-a.txt"], b""), 0, &street_a, &size);
+    expect("-q", &script("ask", &["-q", "write"], STREET_A), 0, &street_a, "");
+    let samples: Vec<(String, String)> = listed().into_iter().collect();
+    let faults = in_parallel(&samples, |(name, prints)| {
+        let plan = script("plan", &[&format!("sheets/{name}")], b"");
+        assert_eq!(&plan.printed, prints, "{name}");
+        written_otherwise(&sheet(name), &plan)
+    });
+    assert!(faults.is_empty(), "{}", faults.join("\n"));
+    let zero = script("ask", &["write"], b"1\n600\n1\n0 240\0\n0\n");
+    expect("a byte 0", &zero, 1, "refused 1 0\n", "has \"0 240<0>\"");
+}
+
+#[test]
+fn the_typists_page_tells_how_to_check_a_sheet_that_came_back() {
+    let page = Page::open("SHEETS.md").text;
+    let command = page.lines().find_map(|line| line.strip_prefix("    ./ask -q write ")).expect("a command");
+    let folder = Folder::make();
+    let at = |name: &str| format!("'{}'", folder.0.join(name).display());
+    let line = ["BACK", "SENT", "WRITTEN"]
+        .iter()
+        .fold(format!("./ask -q write {command}"), |line, name| line.replace(name, &at(name)));
+    folder.put("SENT", STREET_A);
+    let came_back = |back: &str, status: i32, printed: &str, said: &str| {
+        folder.put("BACK", back);
+        expect(back, &bash(&line), status, printed, said);
+    };
+    let sent = String::from_utf8_lossy(STREET_A);
+    came_back(&sent, 0, "", "");
+    came_back(&sent.replace("30000 50", "30000 60"), 1, "5c5\n< 30000 50\n---\n> 30000 60\n", "");
+    came_back(&sent.replace("30000 50", "30000\t60"), 1, "", "line 5 should have the distance and the red");
 }
 
 /// A folder with the scripts and no crate, and with a kit of its own, whose `rt` runs a line of sh.

@@ -2,7 +2,7 @@
 
 use compare::page::{sheet, Page};
 use compare::printed::plan_prints;
-use compare::scripts::{ended, look, script, Ended};
+use compare::scripts::{ended, look, script, written_otherwise, Ended};
 use compare::sheet::{fault_line, number, read, LARGEST_SHEET};
 use compare::street::Street;
 use compare::trial::{in_parallel, Case};
@@ -162,14 +162,14 @@ fn each_slip_leads_to_its_line() {
     println!("{} slips", slips.len());
     assert!(slips.len() >= 40);
     let fault = |(what, sheet, refused, line, says): &Slip| {
-        let Ended { status, printed, said } = script("plan", &[], sheet);
-        let first = said.lines().next().unwrap_or("");
-        let good = status == Some(1) && printed == format!("refused {refused}\n");
+        let plan = script("plan", &[], sheet);
+        let first = plan.said.lines().next().unwrap_or("");
+        let good = plan.status == Some(1) && plan.printed == format!("refused {refused}\n");
         let led = names(first, *line) && first.contains(says);
         if good && led {
-            None
+            written_otherwise(sheet, &plan)
         } else {
-            Some(format!("{what}: {printed}{first}"))
+            Some(format!("{what}: {}{first}", plan.printed))
         }
     };
     let faults = in_parallel(&slips, fault);

@@ -1,6 +1,7 @@
 //! Every sheet that is one byte away from a sample: each byte changed to each other, each byte put in anywhere, each
 //! byte left out, and each beginning. The bytes 0 among them go through `plan`, the rest through `cases`.
 
+use compare::cases::reply;
 use compare::run::Program;
 use compare::sheet::STREET_A;
 use compare::trial::{compare_plan, compare_run, in_parallel, runs, Case, Difference};
@@ -44,6 +45,21 @@ fn every_byte_but_0() {
         println!("{} sheets one byte from {}", cases.len(), sheet.escape_ascii());
         expect_none(in_parallel(&runs(&cases), |run| compare_run(&program, run)));
     }
+}
+
+#[test]
+fn what_is_one_byte_away_is_written_as_it_stands_or_refused() {
+    let shorter = (0..STREET_A.len()).map(|at| left_out(STREET_A, at));
+    let sheets = b"0123456789 \n".iter().flat_map(|&byte| neighbours(STREET_A, byte)).chain(shorter);
+    let asked = |case: Case| Case { request: "write".to_string(), ..case };
+    let cases: Vec<Case> = numbered(sheets).into_iter().map(asked).collect();
+    let replies: Vec<String> = cases.iter().map(|case| reply(&case.bytes())).collect();
+    let refused = replies.iter().filter(|text| text.starts_with("refused")).count();
+    let written = cases.iter().zip(&replies).filter(|(case, text)| case.sheet == text.as_bytes()).count();
+    println!("{written} sheets written as they stand, {refused} refused");
+    assert!(written + refused == cases.len() && written > 100 && refused > 300);
+    let program = Program::cases();
+    expect_none(in_parallel(&runs(&cases), |run| compare_run(&program, run)));
 }
 
 #[test]

@@ -12,6 +12,7 @@ use compare::printed::{plan_prints, printed};
 use compare::run::Program;
 use compare::sheet::{read, write, LARGEST_SHEET};
 use compare::street::{link_time, Street, Times, MAX_SIGNALS};
+use compare::streets::greatest;
 use std::collections::BTreeSet;
 
 fn typists() -> (Page, Vec<Sample>) {
@@ -69,7 +70,7 @@ fn examples() -> Vec<(Vec<u8>, String)> {
 #[test]
 fn the_examples_come_out() {
     let examples = examples();
-    assert_eq!(examples.len(), 22);
+    assert_eq!(examples.len(), 23);
     let bytes = input(&examples.iter().map(|(case, _)| case).collect::<Vec<_>>());
     let expected: String = examples.iter().map(|(_, reply)| format!("{reply}\n")).collect();
     assert_eq!(output(&bytes), expected, "the model");
@@ -144,13 +145,7 @@ fn the_typists_example_is_explained_line_by_line() {
 
 #[test]
 fn the_longest_sheet_of_a_street_is_as_the_page_says() {
-    let longest = Street {
-        cycle: 6_000,
-        reds: vec![5_999; 32],
-        distances: (19_999_969..=20_000_000).collect(),
-        outbound: vec![40_000; 31],
-        inbound: vec![40_000; 31],
-    };
+    let longest = greatest();
     let (sheet, prints) = (write(&longest), printed(&equal(&longest, MAX_SIGNALS)));
     assert!(!prints.starts_with("refused") && sheet.len() < LARGEST_SHEET);
     expect(&Program::plan(), &sheet, &prints, "the longest sheet");

@@ -23,7 +23,7 @@ fn case(request: &str, sheet: &[u8]) -> Vec<u8> {
 fn the_crates_own_cases_get_what_stands_beside_them() {
     let (asked, replies) = (text("crates/cases/stdin"), text("crates/cases/stdout"));
     expect(&Program::cases(), asked.as_bytes(), &replies);
-    for word in ["equal", "outbound", "inbound", "platoons", "measure"] {
+    for word in ["equal", "outbound", "inbound", "platoons", "measure", "write"] {
         assert!(asked.split('\0').any(|case| case.starts_with(word)), "no case asks for {word}");
     }
 }
@@ -62,6 +62,30 @@ fn a_request_of_another_form_is_bad() {
     expect_bad(&["equal  room 5", "equal room  5", "equal room 5 ", "equal room 5 6", "equal room 5 room 5"]);
     expect_bad(&["equal room 65", "equal room 640", "equal room 4294967296", "equal room 4294967301"]);
     expect_bad(&["equal room 18446744073709551617", "equal room 99999999999999999999999"]);
+}
+
+#[test]
+fn a_sheet_is_written_by_its_word_and_room_alone() {
+    let serve = |requests: &[&str], text: &str| {
+        let cases: Vec<Vec<u8>> = requests.iter().map(|request| case(request, STREET_A)).collect();
+        expect(&Program::cases(), &input(&cases), &format!("{text}\n").repeat(requests.len()));
+    };
+    let sheet = String::from_utf8_lossy(STREET_A);
+    serve(&["write", "write room 36", "write room 0036", "write room 37", "write room 4096"], &sheet);
+    serve(&["write room 0", "write room 1", "write room 35", "write room 035"], "refused 3 0\n");
+    expect_bad(&["Write", "writ", "writes", "write ", " write", "write\r", "written", "write write"]);
+    expect_bad(&["write 5", "write 0", "write 36", "write 4096", "write 5 room 40", "write equal"]);
+    expect_bad(&["write room", "write room ", "write room x", "write room -1", "write room 5x"]);
+    expect_bad(&["write  room 40", "write room  40", "write room 40 ", "writeroom 40", "room 40 write"]);
+    expect_bad(&["write room 40 6", "write room 40 room 40", "write room 40\r", "write 40 room"]);
+    expect_bad(&["write room 4097", "write room 40960", "write room 4294967296", "write room 4294967332"]);
+    expect_bad(&["write room 18446744073709551652", "write room 99999999999999999999999"]);
+}
+
+#[test]
+fn the_room_of_a_sheet_is_too_much_for_a_plan() {
+    expect_bad(&["equal room 65", "equal room 4096", "outbound 80 room 4096", "inbound 80 room 4096"]);
+    expect_bad(&["platoons 30 10 room 4096", "measure 0 10 room 4096", "measure room 4096"]);
 }
 
 fn street(signals: i64) -> Street {

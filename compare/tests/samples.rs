@@ -1,22 +1,9 @@
 //! The sample sheets through `plan`: each gets what sheets/README.md says, and the README has a row for each.
 
-use compare::page::sheet;
+use compare::page::{listed, sheet};
 use compare::printed::plan_prints;
 use compare::run::{repository, text, Program};
-use std::collections::BTreeMap;
 use std::fs;
-
-/// The file names and texts of the README's table, whose rows give file, meaning, first line and offsets.
-fn table() -> BTreeMap<String, String> {
-    let text = text("sheets/README.md");
-    let plain = |cell: &str| cell.trim().trim_matches('`').to_string();
-    let row = |line: &str| {
-        let cells: Vec<String> = line.split('|').map(plain).collect();
-        let lines = [cells[3].as_str()].into_iter().chain(cells[4].split_whitespace());
-        (cells[1].clone(), lines.map(|line| format!("{line}\n")).collect::<String>())
-    };
-    text.lines().filter(|line| line.starts_with("| `")).map(row).collect()
-}
 
 fn samples() -> Vec<String> {
     let folder = fs::read_dir(repository().join("sheets")).expect("sheets/ is there");
@@ -29,14 +16,14 @@ fn samples() -> Vec<String> {
 
 #[test]
 fn the_readme_lists_the_samples() {
-    let listed: Vec<String> = table().into_keys().collect();
-    assert_eq!(listed, samples());
-    assert!(listed.len() >= 14, "samples are missing: {listed:?}");
+    let names: Vec<String> = listed().into_keys().collect();
+    assert_eq!(names, samples());
+    assert!(names.len() >= 14, "samples are missing: {names:?}");
 }
 
 #[test]
 fn the_model_answers_as_the_readme_says() {
-    for (name, text) in table() {
+    for (name, text) in listed() {
         assert_eq!(plan_prints(&sheet(&name)), text, "{name}");
     }
 }
@@ -44,7 +31,7 @@ fn the_model_answers_as_the_readme_says() {
 #[test]
 fn plan_answers_as_the_readme_says() {
     let program = Program::plan();
-    for (name, text) in table() {
+    for (name, text) in listed() {
         let answer = program.answer(&sheet(&name)).unwrap_or_else(|fault| panic!("{name}: {fault}"));
         assert_eq!(String::from_utf8_lossy(&answer), text, "{name}");
     }
