@@ -5,7 +5,8 @@
 # are built as client.c is, and run by the kit's emulator, which starts no program of Rust and for which no Python is
 # there; these two are then named and not run, and of their text it is seen that it compiles.
 
-blocks=(street.txt street.c c.sh pkg-config.sh street.cc cpp.sh street.rs rust.sh shared.sh street.py python.sh)
+blocks=(street.txt street.c c.sh pkg-config.sh street.cc cpp.sh street.rs rust.sh shared.sh street.py python.sh
+    sheet.txt sheet.c sheet.sh)
 
 take_out() {
     local block
@@ -32,16 +33,16 @@ can() { # TOOL...
     done
 }
 
-# Holds what a program printed to the page's text.
+# Holds what a program printed to the page's text, which run_page names.
 hold() { # LANGUAGE STATUS
-    if [ "$2" -eq 0 ] && cmp -s -- "$calling/street.txt" "$calling/printed"; then
+    if [ "$2" -eq 0 ] && cmp -s -- "$calling/$text" "$calling/printed"; then
         say "  the program in $1 prints what the page shows"
         passed=$((passed + 1))
         return
     fi
     tail -n 20 -- "$calling/said" >&2
     fault "the program in $1 on docs/CALLING.md (exit status $2); the page's lines with -, its own with +"
-    diff -u -- "$calling/street.txt" "$calling/printed" | tail -n +4 >&2
+    diff -u -- "$calling/$text" "$calling/printed" | tail -n +4 >&2
 }
 
 # Runs commands of the page as they stand there.
@@ -134,6 +135,7 @@ package() {
 
 # Runs all that the page has.
 run_page() {
+    local text=street.txt
     say "building and running the programs of docs/CALLING.md"
     take_out
     if can cc; then by_page C c.sh; else by_way C street.c -x c -std=c99; fi
@@ -142,4 +144,6 @@ run_page() {
     if can cc rustc; then by_page Rust rust.sh; else not_run Rust rustc --edition 2021 --emit=metadata street.rs; fi
     shared
     if can python3; then by_page Python python.sh; else not_run Python python3 -m py_compile street.py; fi
+    text=sheet.txt
+    if can cc; then by_page 'C that writes a sheet' sheet.sh; else by_way 'C that writes a sheet' sheet.c -x c -std=c99; fi
 }

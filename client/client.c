@@ -3,12 +3,15 @@
  * with a pattern, prints the reply and the whole list, and measures the offsets of a plan.
  *
  *     client SHEET [room N | outbound WIDTH | inbound WIDTH | platoons P Q]
+ *     client SHEET write [N]
  *     client SHEET print|numbers|unequal
  *     client empty
  *
- * Without a word after the sheet, or with `room`, it is the equal plan. `print` shows the printed plan and `numbers`
- * what the reader read. `unequal` hands over lists whose lengths do not fit, and `empty` hands null pointers and
- * counts of 0 to every call. Exit status: 0, or 2 where the words or the file are no good; a refusal is an answer.
+ * Without a word after the sheet, or with `room`, it is the equal plan. `write` writes the sheet again into a lent list
+ * of N bytes, two more than any sheet needs where N is not said, prints the reply and all bytes of the list, and tells
+ * whether what was written reads back as the same numbers. `print` shows the printed plan and `numbers` what the reader
+ * read. `unequal` hands over lists whose lengths do not fit, and `empty` hands null pointers and counts of 0 to every
+ * call. Exit status: 0, or 2 where the words or the file are no good; a refusal is an answer.
  */
 #include "corbatan.h"
 
@@ -21,19 +24,31 @@
 #define PATTERN 77777u
 #define MAX_ROOM 64
 
+/* No sheet has the byte of the pattern. */
+#define BYTE_PATTERN 77u
+#define MAX_BYTES (CORBATAN_MAX_SHEET + 2)
+
 /* The structs are laid out as the library has them: a negative size here stops the compiler. */
 typedef char plan_size[sizeof(CorbatanPlan) == 36 ? 1 : -1];
 typedef char measure_size[sizeof(CorbatanMeasure) == 24 ? 1 : -1];
 typedef char sheet_size[sizeof(CorbatanSheet) == 536 && offsetof(CorbatanSheet, reds) == 20 ? 1 : -1];
+typedef char writing_size[sizeof(CorbatanWriting) == 16 && offsetof(CorbatanWriting, count) == 8 ? 1 : -1];
 typedef char text_size[sizeof(CorbatanText) == 520 && offsetof(CorbatanText, bytes) == 8 ? 1 : -1];
 
 static uint32_t lent[MAX_ROOM];
+static uint8_t lent_bytes[MAX_BYTES];
 
 static uint32_t *fill(size_t room)
 {
     for (size_t i = 0; i < MAX_ROOM; i++)
         lent[i] = PATTERN;
     return room == 0 ? NULL : lent;
+}
+
+static uint8_t *fill_bytes(size_t room)
+{
+    memset(lent_bytes, BYTE_PATTERN, sizeof lent_bytes);
+    return room == 0 ? NULL : lent_bytes;
 }
 
 /* An empty list as a null pointer, which the calls allow. */
@@ -80,6 +95,16 @@ static void show_sheet(CorbatanSheet s)
     show_list("inbound", s.inbound, links);
 }
 
+/* Shows the reply and every byte that was lent. */
+static void show_writing(CorbatanWriting w, size_t room)
+{
+    printf("writing code %" PRIu32 " place %" PRIu32 " count %zu\n", w.code, w.place, w.count);
+    printf("bytes");
+    for (size_t i = 0; i < room; i++)
+        printf(" %d", lent_bytes[i]);
+    printf("\n");
+}
+
 static void show_text(CorbatanText t)
 {
     fwrite(t.bytes, 1, t.count, stdout);
@@ -99,8 +124,29 @@ static void show_planned(const CorbatanSheet *s, CorbatanPlan p, size_t room)
         show_measure(corbatan_measure(STREET(*s, s->signals, s->signals - 1), lent, s->signals));
 }
 
+static int same_numbers(const CorbatanSheet *a, const CorbatanSheet *b)
+{
+    return a->code == b->code && a->signals == b->signals && a->cycle == b->cycle &&
+           memcmp(a->reds, b->reds, sizeof a->reds) == 0 &&
+           memcmp(a->distances, b->distances, sizeof a->distances) == 0 &&
+           memcmp(a->outbound, b->outbound, sizeof a->outbound) == 0 &&
+           memcmp(a->inbound, b->inbound, sizeof a->inbound) == 0;
+}
+
+/* Writes the sheet, shows the lent list after it, and reads back what was written. */
+static void write_again(const CorbatanSheet *s, size_t room)
+{
+    CorbatanWriting w = corbatan_write(STREET(*s, s->signals, s->signals - 1), fill_bytes(room), room);
+    show_writing(w, room);
+    if (w.code == CORBATAN_OK) {
+        CorbatanSheet again = corbatan_read(lent_bytes, w.count);
+        printf("read %s\n", same_numbers(s, &again) ? "same" : "other");
+    }
+}
+
 /* A distance too few, an outbound speed too many, an inbound speed too many, an offset too many, and then as many as
-   there should be, which still are the pattern and so too large. */
+   there should be, which still are the pattern and so too large. Last a sheet with a distance too few, over as many
+   bytes as there are signals: that is too little room as well, which would be named last. */
 static void unequal(const CorbatanSheet *s)
 {
     const uint32_t *r = s->reds, *d = s->distances, *o = s->outbound, *i = s->inbound;
@@ -112,6 +158,7 @@ static void unequal(const CorbatanSheet *s)
     show_list("list", lent, n);
     show_measure(corbatan_measure(STREET(*s, n, links), lent, n + 1));
     show_measure(corbatan_measure(STREET(*s, n, links), lent, n));
+    show_writing(corbatan_write(s->cycle, r, n, d, n - 1, o, links, i, links, fill_bytes(n), n), n);
 }
 
 static void empty(void)
@@ -123,11 +170,13 @@ static void empty(void)
     show_plan(corbatan_inbound(600, NULL, 0, NULL, 0, NULL, 0, NULL, 0, 80, NULL, 0));
     show_plan(corbatan_platoons(600, NULL, 0, NULL, 0, NULL, 0, NULL, 0, 30, 10, NULL, 0));
     show_measure(corbatan_measure(600, NULL, 0, NULL, 0, NULL, 0, NULL, 0, NULL, 0));
+    show_writing(corbatan_write(600, NULL, 0, NULL, 0, NULL, 0, NULL, 0, NULL, 0), 0);
 }
 
 static int usage(void)
 {
     fprintf(stderr, "usage: client SHEET [room N | outbound WIDTH | inbound WIDTH | platoons P Q]\n");
+    fprintf(stderr, "       client SHEET write [N]\n");
     fprintf(stderr, "       client SHEET print|numbers|unequal\n");
     fprintf(stderr, "       client empty\n");
     return 2;
@@ -152,6 +201,10 @@ static int asked(const CorbatanSheet *s, int words, char **word)
         show_planned(s, corbatan_inbound(STREET(*s, n, links), first, offsets, room), room);
     else if (words == 3 && strcmp(word[0], "platoons") == 0)
         show_planned(s, corbatan_platoons(STREET(*s, n, links), first, second, offsets, room), room);
+    else if (words == 1 && strcmp(word[0], "write") == 0)
+        write_again(s, MAX_BYTES);
+    else if (words == 2 && strcmp(word[0], "write") == 0 && first <= MAX_BYTES)
+        write_again(s, first);
     else if (words == 1 && strcmp(word[0], "unequal") == 0)
         unequal(s);
     else

@@ -24,18 +24,21 @@ static volatile uint64_t region[WORDS];
 /* What the next call gets. The counts stand apart, so that they can be wrong. */
 static uint32_t cycle, reds[N], distances[N], outbound[N], inbound[N], offsets[N], first, second;
 static uint32_t lent[N];
-static size_t signals, links, room;
+static uint8_t lent_bytes[CORBATAN_MAX_SHEET];
+static size_t signals, links, room, bytes_room;
 static uint8_t sheet[4096];
 static size_t sheet_count;
 
 static CorbatanPlan plan;
 static CorbatanMeasure measure;
 static CorbatanSheet numbers;
+static CorbatanWriting writing;
 static CorbatanText text;
 
 #define STREET cycle, reds, signals, distances, signals, outbound, links, inbound, links
 
 static void call_read(void) { numbers = corbatan_read(sheet, sheet_count); }
+static void call_write(void) { writing = corbatan_write(STREET, lent_bytes, bytes_room); }
 static void call_print(void) { text = corbatan_print(sheet, sheet_count); }
 static void call_equal(void) { plan = corbatan_equal(STREET, lent, room); }
 static void call_outbound(void) { plan = corbatan_outbound(STREET, first, lent, room); }
@@ -49,6 +52,7 @@ static struct {
     size_t most;
 } calls[] = {
     {"corbatan_read", call_read, 0},
+    {"corbatan_write", call_write, 0},
     {"corbatan_print", call_print, 0},
     {"corbatan_equal", call_equal, 0},
     {"corbatan_outbound", call_outbound, 0},
@@ -110,6 +114,7 @@ static void set_street(size_t n, int greatest)
 {
     signals = room = n;
     links = n - 1;
+    bytes_room = sizeof lent_bytes;
     cycle = greatest ? 6000 : 10 + below(5991);
     for (size_t i = 0; i < n; i++) {
         reds[i] = greatest ? 5999 : 1 + below(cycle - 1);
@@ -170,6 +175,7 @@ static void measure_refusals(void)
     measure_with(&inbound[links - 1], 40001);
     room--;
     sheet_count--;
+    bytes_room--;
     measure_all();
     memset(sheet, '9', sizeof sheet);
     sheet_count = 2048;

@@ -16,15 +16,17 @@
  *   - a pointer is aligned for its entries and has as many of them behind it
  *     as its count says, none of which changes during the call;
  *   - a null pointer is allowed where the count is 0;
- *   - the lent list `offsets` of a plan can be written and overlaps no input;
- *     inputs may overlap one another, or be the same list.
+ *   - a lent list, the `offsets` of a plan or the `bytes` that corbatan_write
+ *     is to fill, can be written and overlaps no input; inputs may overlap one
+ *     another, or be the same list.
  *
  * What a caller gets: every call returns, whatever the counts and the numbers
  * are. Numbers that make no street are refused by a code, and a list of the
  * wrong length is one of the faults. A plan writes the first n entries of the
- * lent list and no other; a refusal writes none. Nothing is allocated and
- * nothing is kept between calls, so threads may call at the same time, each
- * with a lent list of its own.
+ * lent list, corbatan_write as many as the sheet has bytes, and neither any
+ * other; a refusal writes none. Nothing is allocated and nothing is kept
+ * between calls, so threads may call at the same time, each with a lent list
+ * of its own.
  *
  * How to get the archive, which is for x86-64 Linux: in the repository,
  *
@@ -48,31 +50,35 @@
 
 /* The version of this interface: the major number changes when a program that uses it has to change. */
 #define CORBATAN_VERSION_MAJOR 1
-#define CORBATAN_VERSION_MINOR 1
-#define CORBATAN_VERSION "1.1"
+#define CORBATAN_VERSION_MINOR 2
+#define CORBATAN_VERSION "1.2"
 
 /* How many signals a street can have, and so how long the lists in a CorbatanSheet are. */
 #define CORBATAN_MAX_SIGNALS 32
+
+/* How many bytes the sheet of a street that passes the checks has at most: a lent list of so many always has room. */
+#define CORBATAN_MAX_SHEET 833
 
 /* How many bytes a printed text can have. */
 #define CORBATAN_MAX_TEXT 512
 
 /*
  * How many bytes of stack are enough for any of the calls, with its arguments and its reply. client/stack.c measures
- * what they take, on streets of up to 32 signals, on requests and on refusals: corbatan_print 12,712, a plan 10,104,
- * corbatan_read 1,344, corbatan_measure 2,008. The rest is room, as for the dynamic linker, which takes some 2,000
- * bytes of the caller's stack where it binds memcpy or memset at their first use.
+ * what they take, on streets of up to 32 signals, on requests and on refusals: corbatan_print 12,696, a plan 10,120,
+ * corbatan_read 1,328, corbatan_write 1,072, corbatan_measure 2,008. The rest is room, as for the dynamic linker, which
+ * takes some 2,000 bytes of the caller's stack where it binds memcpy or memset at their first use.
  */
 #define CORBATAN_STACK 20480
 
 /*
  * What `code` says, and what `place` then names, counted from 1. Of a street's faults the one with the smallest code
- * is given, at its first place; of a sheet's the first that reading comes to.
+ * is given, at its first place, except that corbatan_write gives code 3 last of all; of a sheet's the first that
+ * reading comes to.
  */
 #define CORBATAN_OK 0       /* Nothing was refused; place 0. */
 #define CORBATAN_SHEET 1    /* The bytes are not formed as a sheet; place 0. */
 #define CORBATAN_COUNT 2    /* n is not 1 to 32, or a list's length does not fit n; place 0. */
-#define CORBATAN_ROOM 3     /* The lent list has fewer than n entries; place 0. */
+#define CORBATAN_ROOM 3     /* The lent list is shorter than what is written: n offsets, or a sheet's bytes; place 0. */
 #define CORBATAN_CYCLE 4    /* The cycle is not 10 to 6,000 ticks; place 0. */
 #define CORBATAN_RED 5      /* A red is not 1 tick to one tick less than the cycle; the signal. */
 #define CORBATAN_DISTANCE 6 /* A distance is above 20,000,000 mm or not above the one before; the signal. */
@@ -126,6 +132,13 @@ typedef struct CorbatanSheet {
     uint32_t inbound[CORBATAN_MAX_SIGNALS];   /* Each link's inbound speed, in mm/s; 0 from entry n - 1 on. */
 } CorbatanSheet;
 
+/* The length of a sheet that was written, or a refusal, whose count is 0. It has 16 bytes. */
+typedef struct CorbatanWriting {
+    uint32_t code;  /* 0 for a sheet that was written, else the number of the refusal. */
+    uint32_t place; /* The signal or link that was refused, counted from 1, or 0. */
+    size_t count;   /* How many bytes the sheet has, which are the first of the lent list. */
+} CorbatanWriting;
+
 /* A printed text. It has 520 bytes. */
 typedef struct CorbatanText {
     size_t count;                     /* How many bytes the text has. */
@@ -134,6 +147,20 @@ typedef struct CorbatanText {
 
 /* Reads a street sheet from its bytes. */
 CorbatanSheet corbatan_read(const uint8_t *bytes, size_t bytes_count);
+
+/*
+ * Writes the sheet of a street into the first bytes of a lent list. From these corbatan_read reads the same numbers
+ * again, and numbers that it read from a sheet give that sheet's own bytes. The list's bytes past the count stay as
+ * they were, and a refusal writes none. Whether the list has room is judged last, so code 3 says that nothing but its
+ * length is at fault.
+ */
+CorbatanWriting corbatan_write(
+    uint32_t cycle,
+    const uint32_t *reds, size_t reds_count,
+    const uint32_t *distances, size_t distances_count,
+    const uint32_t *outbound, size_t outbound_count,
+    const uint32_t *inbound, size_t inbound_count,
+    uint8_t *bytes, size_t bytes_count);
 
 /* Prints the equal plan of a sheet's bytes: a line of numbers and then one offset a line, or a refusal's one line. */
 CorbatanText corbatan_print(const uint8_t *bytes, size_t bytes_count);

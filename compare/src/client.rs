@@ -6,11 +6,17 @@ use crate::equal::Plan;
 use crate::moved::{plan, Ask};
 use crate::named::named;
 use crate::printed::plan_prints;
-use crate::sheet::read;
+use crate::sheet::{read, written};
 use crate::street::{Refusal, Street};
 
 /// What the client fills its lent list with; no offset is as large.
 const PATTERN: i64 = 77_777;
+
+/// What it fills its lent list of bytes with; no sheet has such a byte.
+const BYTE_PATTERN: u8 = 77;
+
+/// How many bytes the client lends where its words do not say: two more than the longest sheet of a street has.
+pub const LARGEST_BYTES: usize = 835;
 
 /// All that the client prints, given the words after the name of its sheet.
 pub fn prints(words: &[&str], sheet: &[u8]) -> String {
@@ -18,6 +24,8 @@ pub fn prints(words: &[&str], sheet: &[u8]) -> String {
         (["print"], _) => plan_prints(sheet),
         (["numbers"], reply) | (_, reply @ Err(_)) => numbers(&reply),
         (["unequal"], Ok(street)) => unequal(&street),
+        (["write"], Ok(street)) => written_again(&street, LARGEST_BYTES),
+        (["write", room], Ok(street)) => written_again(&street, room.parse().expect("a count of bytes")),
         (["room", room], Ok(street)) => {
             planned(&street, Ask::Equal, room.parse().expect("a count of entries"))
         }
@@ -34,7 +42,8 @@ pub fn empty() -> String {
     let none = Street { cycle: 600, reds: vec![], distances: vec![], outbound: vec![], inbound: vec![] };
     let asks = [Ask::Equal, Ask::Outbound(80), Ask::Inbound(80), Ask::Platoons(30, 10)];
     let plans: String = asks.map(|ask| plan_line(&none, &plan(&none, ask, 0))).concat();
-    numbers(&read(b"")) + &plan_prints(b"") + &plans + &measure_line(&none, &[])
+    let told = numbers(&read(b"")) + &plan_prints(b"") + &plans + &measure_line(&none, &[]);
+    told + &writing_lines(&none, 0)
 }
 
 fn list(name: &str, entries: &[i64]) -> String {
@@ -86,16 +95,33 @@ fn planned(street: &Street, ask: Ask, room: usize) -> String {
     plan_line(street, &reply) + &list("list", &lent) + &measure
 }
 
-/// Four calls with a list of another length, and one with offsets that are still the pattern.
+/// The reply of the writer, and the lent list of bytes after it.
+fn writing_lines(street: &Street, room: usize) -> String {
+    let reply = written(street, room);
+    let mut lent = reply.clone().unwrap_or_default();
+    let line = head("writing", &reply) + &format!(" count {}\n", lent.len());
+    lent.resize(room, BYTE_PATTERN);
+    line + &list("bytes", &lent.into_iter().map(i64::from).collect::<Vec<i64>>())
+}
+
+/// The same, and whether the written sheet reads as the street.
+fn written_again(street: &Street, room: usize) -> String {
+    let back = written(street, room).map(|sheet| read(&sheet).as_ref() == Ok(street));
+    let told = back.map_or("", |same| if same { "read same\n" } else { "read other\n" });
+    writing_lines(street, room) + told
+}
+
+/// Five calls with a list of another length, and one with offsets that are still the pattern.
 fn unequal(street: &Street) -> String {
     let n = street.signals();
     let (mut distances, mut outbound, mut inbound) = (street.clone(), street.clone(), street.clone());
     distances.distances.pop();
     outbound.outbound.push(0);
     inbound.inbound.push(0);
+    let writing = writing_lines(&distances, n);
     let refused = [(distances, Ask::Equal), (outbound, Ask::Inbound(80)), (inbound, Ask::Outbound(80))];
     let plans: String = refused.map(|(street, ask)| plan_line(&street, &plan(&street, ask, n))).concat();
     let pattern = vec![PATTERN; n + 1];
     let measures = measure_line(street, &pattern) + &measure_line(street, &pattern[..n]);
-    plans + &list("list", &pattern[..n]) + &measures
+    plans + &list("list", &pattern[..n]) + &measures + &writing
 }

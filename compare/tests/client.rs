@@ -2,20 +2,21 @@
 //! docs/SHEETS.md, on the sample sheets with requests at the ends of their ranges, and on random sheets.
 
 use compare::asks::ask;
-use compare::client::{empty, prints};
+use compare::client::{empty, prints, LARGEST_BYTES};
 use compare::equal::Pairs;
 use compare::moved::{shortest_green, MAX_PLATOON};
 use compare::page::{Page, Sample};
 use compare::random::Random;
 use compare::run::{repository, text, Program};
-use compare::sheet::{read, LARGEST_SHEET, STREET_A};
+use compare::sheet::{read, write, written, LARGEST_SHEET, STREET_A};
 use compare::street::Street;
 use compare::streets;
 use compare::trial::{in_parallel, indented, Case};
 use std::fs;
+use std::path::PathBuf;
 
 const SEED: u64 = 1_966;
-const RANDOM: u64 = 120;
+const RANDOM: u64 = 160;
 
 /// The greatest lent list of the client.
 const LARGEST_ROOM: usize = 64;
@@ -55,7 +56,7 @@ fn hold(runs: &[Run]) {
 }
 
 /// What is asked about any sheet that can be read; the first two are enough for one that cannot.
-const ALWAYS: [&str; 5] = ["", "print", "numbers", "unequal", "room 0"];
+const ALWAYS: [&str; 7] = ["", "print", "numbers", "unequal", "room 0", "write", "write 0"];
 
 /// What is asked about a sheet: of a street that has a plan also requests and lists at the ends of their ranges.
 fn questions(sheet: &[u8]) -> Vec<String> {
@@ -81,7 +82,9 @@ fn at_the_ends(street: &Street) -> Vec<String> {
     let sides = widths.map(|width| [format!("outbound {width}"), format!("inbound {width}")]);
     let rooms = [n - 1, LARGEST_ROOM].map(|room| format!("room {room}"));
     let platoons = platoons.map(|(out, back)| format!("platoons {out} {back}"));
-    sides.into_iter().flatten().chain(rooms).chain(platoons).collect()
+    let bytes = write(street).len();
+    let sheets = [bytes, bytes - 1].map(|room| format!("write {room}"));
+    sides.into_iter().flatten().chain(rooms).chain(platoons).chain(sheets).collect()
 }
 
 #[test]
@@ -97,14 +100,21 @@ fn the_client_is_right_on_every_sheet_of_the_typists_page() {
     hold(&samples.iter().flat_map::<Vec<Run>, _>(asked).collect::<Vec<Run>>());
 }
 
-#[test]
-fn the_client_is_right_on_the_sample_sheets() {
+/// The sheets of sheets/, each with its file.
+fn sample_sheets() -> Vec<(String, Vec<u8>)> {
     let folder = fs::read_dir(repository().join("sheets")).expect("sheets/ is there");
     let files = folder.map(|entry| entry.expect("a file of sheets/").path());
+    let sheet = |file: PathBuf| {
+        let bytes = fs::read(&file).expect("a sample sheet");
+        (file.into_os_string().into_string().expect("a plain name"), bytes)
+    };
+    files.filter(|file| file.extension() == Some("txt".as_ref())).map(sheet).collect()
+}
+
+#[test]
+fn the_client_is_right_on_the_sample_sheets() {
     let mut runs = vec![];
-    for file in files.filter(|file| file.extension() == Some("txt".as_ref())) {
-        let sheet = fs::read(&file).expect("a sample sheet");
-        let file = file.into_os_string().into_string().expect("a plain name");
+    for (file, sheet) in sample_sheets() {
         let run = |words: String| Run { file: file.clone(), sheet: sheet.clone(), words };
         runs.extend(questions(&sheet).into_iter().map(run));
     }
@@ -117,9 +127,11 @@ fn random_run(number: u64) -> Run {
     let random = &mut Random::new(SEED, number);
     let street = streets::street(random);
     let (n, any) = (street.signals(), random.below(LARGEST_ROOM + 1));
-    let words = match random.below(8) {
+    let (bytes, some) = (write(&street).len(), random.below(LARGEST_BYTES + 1));
+    let words = match random.below(10) {
         0 | 1 => random.pick(&ALWAYS).to_string(),
         2 => format!("room {}", random.pick(&[n - 1, n, n + 1, any])),
+        3 | 4 => format!("write {}", random.pick(&[bytes - 1, bytes, bytes + 1, some])),
         _ => ask(random, &street).to_string(),
     };
     let case = Case::asking(random, number, words, &street);
@@ -129,13 +141,22 @@ fn random_run(number: u64) -> Run {
 #[test]
 fn the_client_is_right_on_random_sheets() {
     let runs: Vec<Run> = (0..RANDOM).map(random_run).collect();
-    let planned = |run: &&Run| {
-        let words: Vec<&str> = run.words.split_whitespace().collect();
-        prints(&words, &run.sheet).starts_with("plan code 0 ")
-    };
-    let planned = runs.iter().filter(planned).count();
-    assert!(planned > RANDOM as usize / 4, "{planned} plans");
+    let told = |run: &Run| prints(&run.words.split_whitespace().collect::<Vec<&str>>(), &run.sheet);
+    let met = |start: &str| runs.iter().filter(|run| told(run).starts_with(start)).count();
+    for (start, wanted) in [("plan code 0 ", 40), ("writing code 0 ", 10), ("writing code 3 ", 5)] {
+        assert!(met(start) >= wanted, "{} replies `{start}`", met(start));
+    }
     hold(&runs);
+}
+
+#[test]
+fn a_sheet_that_is_read_and_written_again_is_the_same() {
+    let page = Page::open("SHEETS.md").samples().into_iter().map(|sample| sample.sheet);
+    let sheets = page.chain(sample_sheets().into_iter().map(|(_, sheet)| sheet));
+    let written_again = |sheet: &Vec<u8>| read(sheet).and_then(|street| written(&street, sheet.len()));
+    let both: Vec<_> = sheets.filter_map(|sheet| Some((written_again(&sheet).ok()?, sheet))).collect();
+    assert!(both.len() >= 15, "{} sheets are written again", both.len());
+    both.iter().for_each(|(again, sheet)| assert_eq!(again, sheet));
 }
 
 #[test]
@@ -163,11 +184,12 @@ fn the_client_hands_over_empty_lists() {
 #[test]
 fn the_client_tells_bad_words_from_a_refusal() {
     let client = Program::client();
-    let bad: [&[&str]; 5] = [
+    let bad: [&[&str]; 6] = [
         &[],
         &["/dev/stdin", "equal"],
         &["/dev/stdin", "outbound"],
         &["/dev/stdin", "room", "65"],
+        &["/dev/stdin", "write", "836"],
         &["no-such-sheet.txt"],
     ];
     for words in bad {
@@ -190,8 +212,9 @@ fn shown() -> Vec<(String, String)> {
 #[test]
 fn the_clients_shown_lines_are_the_models() {
     let cases = shown();
-    for words in ["sheets/street-a.txt", "sheets/street-a.txt room 1", "sheets/street-a.txt unequal", "empty"]
-    {
+    let street_a = ["", " room 1", " unequal", " write 36", " write 35"];
+    let wanted = street_a.map(|words| format!("sheets/street-a.txt{words}"));
+    for words in wanted.iter().map(String::as_str).chain(["empty"]) {
         assert!(cases.iter().any(|(shown, _)| shown == words), "client/expected.txt does not show {words}");
     }
     for (line, text) in cases {

@@ -1,5 +1,6 @@
 //! The C header beside what it stands for: the functions of the archive, the codes and limits of the rules, and no others.
 
+use compare::client::LARGEST_BYTES;
 use compare::page::Page;
 use compare::run::text;
 use compare::street::MAX_SIGNALS;
@@ -24,7 +25,7 @@ fn defined(header: &str, name: &str) -> Option<usize> {
 fn every_function_of_the_archive_is_declared_and_called() {
     let source = text("crates/exports/src/lib.rt");
     let exported = calls(&source);
-    assert!(exported.len() >= 7 && source.matches("extern \"C\" fn").count() == exported.len());
+    assert!(exported.len() >= 8 && source.matches("extern \"C\" fn").count() == exported.len());
     for name in ["include/corbatan.h", "client/client.c", "client/stack.c"] {
         assert_eq!(calls(&text(name)), exported, "{name}");
     }
@@ -44,6 +45,14 @@ fn every_code_of_the_rules_is_in_the_header() {
         assert_eq!((row[0].parse(), defined(&header, &name)), (Ok(expected), Some(expected)), "{name}");
     }
     assert_eq!(defined(&header, "CORBATAN_MAX_SIGNALS"), Some(MAX_SIGNALS));
+}
+
+#[test]
+fn the_longest_sheet_is_as_the_pages_say() {
+    let longest = defined(&text("include/corbatan.h"), "CORBATAN_MAX_SHEET").expect("a number of bytes");
+    Page::open("SHEETS.md").says(&format!("a street within the limits never needs more than {longest}."));
+    Page::open("CALLING.md").says(&format!("`CORBATAN_MAX_SHEET` bytes, {longest}, are enough"));
+    assert_eq!(longest + 2, LARGEST_BYTES);
 }
 
 #[test]

@@ -3,9 +3,10 @@ use mathlib.Core.Path.{_≡_, refl}
 use mathlib.Core.List.{[], _∷_}
 use lib.IntN.{pos, negsuc}
 use Rattle.street.specs.declared.Code.the-variants.{Speed, Offset}
+use Rattle.writer.specs.declared.Writing.the-variants as writing
 use Rattle.plans.specs.declared.Answer.the-variants as answer
 use Rattle.bands.specs.declared.Measurement.the-variants as measurement
-use Rattle.exports.specs.Flat.{flatPlan, flatMeasure, flatText}
+use Rattle.exports.specs.Flat.{flatPlan, flatMeasure, flatWriting, flatText}
 
 plan :
     flatPlan (answer.Planned (record { reference = 2; b = negsuc 99; outbound = 200; inbound = 3; rounded = 1; starts = 5; ends = 15 }))
@@ -26,6 +27,12 @@ unmeasured :
     flatMeasure (measurement.Refused (record { code = Offset; place = 2 }))
     ≡ record { code = 10; place = 2; «outbound_width» = 0; «outbound_start» = 0; «inbound_width» = 0; «inbound_start» = 0 }
 unmeasured = refl
+
+sheet : flatWriting (writing.Wrote 36) ≡ record { code = 0; place = 0; count = 36 }
+sheet = refl
+
+unwritten : flatWriting (writing.Refused (record { code = Speed; place = 3 })) ≡ record { code = 7; place = 3; count = 0 }
+unwritten = refl
 
 text : flatText (record { bytes = 49 ∷ 10 ∷ []; count = 2 }) ≡ record { count = 2; bytes = 49 ∷ 10 ∷ [] }
 text = refl

@@ -8,6 +8,7 @@ use Rattle.street.specs.Lists.{Lists}
 use Rattle.street.specs.declared.Refusal.{Refusal}
 use Rattle.sheet.specs.declared.Head.{Head}
 use Rattle.sheet.specs.Steps.Filled.{assembled}
+use Rattle.writer.specs.declared.Writing.the-variants as writing
 use Rattle.plans.specs.Answers.{noPlan}
 use Rattle.plans.specs.Requests as plans
 use Rattle.plans.specs.declared.Plan.{Plan}
@@ -17,7 +18,7 @@ use Rattle.widths.specs.declared.Request.{Request}
 use Rattle.bands.specs.Measure.{noBand}
 use Rattle.bands.specs.declared.Measurement.the-variants as measurement
 use Rattle.exports.specs.declared.CorbatanPlan.{CorbatanPlan}
-use Rattle.exports.specs.Flat.{planFields, flatPlan, measureFields, flatMeasure, flatSheet, flatReading}
+use Rattle.exports.specs.Flat.{planFields, flatPlan, measureFields, flatMeasure, flatSheet, flatReading, writingFields, flatWriting}
 use Rattle.exports.specs.Calls.{FlatRequested}
 
 -- a plan with another B
@@ -47,6 +48,11 @@ pub measure-refused :
     (f : Refusal) (code : ℕ) → code ≡ codeNumber (f .code) →
     measureFields (record { code = code; place = f .place; outbound = noBand; inbound = noBand }) ≡ flatMeasure (measurement.Refused f)
 measure-refused f code e = ap (λ k. measureFields (record { code = k; place = f .place; outbound = noBand; inbound = noBand })) e
+
+pub writing-refused :
+    (f : Refusal) (code : ℕ) → code ≡ codeNumber (f .code) →
+    writingFields (record { code = code; place = f .place; count = 0 }) ≡ flatWriting (writing.Refused f)
+writing-refused f code e = ap (λ k. writingFields (record { code = k; place = f .place; count = 0 })) e
 
 -- what `plans` ensures of an answer, of the struct that holds it
 pub requested-flat : (asked : Request) (l : Lists) (entry exit : List ℕ) (a : Answer) (r : CorbatanPlan) → plans.Requested asked l entry exit a → r ≡ flatPlan a → FlatRequested asked l entry exit r

@@ -11,12 +11,13 @@ use Rattle.printed.proofs.Unique.{prints-answer-unique}
 use Rattle.exports.specs.declared.CorbatanPlan.{CorbatanPlan}
 use Rattle.exports.specs.declared.CorbatanMeasure.{CorbatanMeasure}
 use Rattle.exports.specs.declared.CorbatanSheet.{CorbatanSheet}
+use Rattle.exports.specs.declared.CorbatanWriting.{CorbatanWriting}
 use Rattle.exports.specs.declared.CorbatanText.{CorbatanText}
 use Rattle.exports.specs.Flat.{flatMeasure, flatReading, flatText}
-use Rattle.exports.specs.Calls.{FlatRequested, FlatReads, FlatPrints}
+use Rattle.exports.specs.Calls.{FlatRequested, FlatReads, FlatWrites, FlatPrints}
 
 -- one reply, and one final list
-pub record Same (r r′ : CorbatanPlan) (exit exit′ : List ℕ) : Type 0 where
+pub record Same {A : Type 0} (r r′ : A) (exit exit′ : List ℕ) : Type 0 where
   pub reply : r ≡ r′
   pub after : exit ≡ exit′
 
@@ -31,6 +32,10 @@ measure-unique l offsets r r′ one other = one ∙ sym other
 pub read-unique : (bytes : List ℕ) (r r′ : CorbatanSheet) → FlatReads bytes r → FlatReads bytes r′ → r ≡ r′
 read-unique bytes r r′ one other =
     one .reply ∙ ap flatReading (sheet.read-unique bytes (one .reading) (other .reading) (one .reads) (other .reads)) ∙ sym (other .reply)
+
+pub write-unique : (l : Lists) (entry exit exit′ : List ℕ) (r r′ : CorbatanWriting) → FlatWrites l entry exit r → FlatWrites l entry exit′ r′ → Same r r′ exit exit′
+write-unique l entry exit exit′ r r′ one other =
+    record { reply = one .reply ∙ sym (other .reply); after = one .after ∙ sym (other .after) }
 
 pub print-unique : (bytes : List ℕ) (r r′ : CorbatanText) → FlatPrints bytes r → FlatPrints bytes r′ → r ≡ r′
 print-unique bytes r r′ one other =

@@ -7,14 +7,16 @@ use Rattle.road.specs.Limits.{maxSignals}
 use Rattle.street.specs.Lists.{Lists}
 use Rattle.sheet.specs.declared.Reading.{Reading}
 use Rattle.sheet.specs.Reading.{Reads}
+use Rattle.writer.specs.Writing.{writingOf, bytesAfter}
 use Rattle.plans.specs.Requests.{requestAnswer, requestAfter}
 use Rattle.widths.specs.declared.Request.{Request}
 use Rattle.printed.specs.declared.Printed.{Printed}
 use Rattle.printed.specs.Way.{PrintsAnswer}
 use Rattle.exports.specs.declared.CorbatanPlan.{CorbatanPlan}
 use Rattle.exports.specs.declared.CorbatanSheet.{CorbatanSheet}
+use Rattle.exports.specs.declared.CorbatanWriting.{CorbatanWriting}
 use Rattle.exports.specs.declared.CorbatanText.{CorbatanText}
-use Rattle.exports.specs.Flat.{flatPlan, flatReading, flatText}
+use Rattle.exports.specs.Flat.{flatPlan, flatReading, flatWriting, flatText}
 
 -- `corbatan_equal`, `corbatan_outbound`, `corbatan_inbound` and `corbatan_platoons`
 pub record FlatRequested (request : Request) (l : Lists) (entry exit : List ℕ) (r : CorbatanPlan) : Type 0 where
@@ -26,6 +28,11 @@ pub record FlatReads (bytes : List ℕ) (r : CorbatanSheet) : Type 0 where
   pub reading : Reading
   pub reads : Reads bytes reading
   pub reply : r ≡ flatReading reading
+
+-- `corbatan_write`: what the writer answers, and what it leaves in the lent byte list (02, 2026-01)
+pub record FlatWrites (l : Lists) (entry exit : List ℕ) (r : CorbatanWriting) : Type 0 where
+  pub reply : r ≡ flatWriting (writingOf l (length entry))
+  pub after : exit ≡ bytesAfter l entry
 
 -- `corbatan_print`: the printed answer to the bytes, over a list that has room for every street
 pub record FlatPrints (bytes : List ℕ) (r : CorbatanText) : Type 0 where

@@ -3,6 +3,8 @@ use Prim.Native.Nat.{ℕ}
 use Rattle.street.specs.Codes.{codeOf, placeOf}
 use Rattle.sheet.specs.declared.Sheet.{Sheet}
 use Rattle.sheet.specs.declared.Reading.{Reading}
+use Rattle.writer.specs.Writing as writer
+use Rattle.writer.specs.declared.Writing.{Writing}
 use Rattle.plans.specs.Answers as plans
 use Rattle.plans.specs.declared.Answer.{Answer}
 use Rattle.bands.specs.Measure as bands
@@ -11,6 +13,7 @@ use Rattle.printed.specs.declared.Printed.{Printed}
 use Rattle.exports.specs.declared.CorbatanPlan.{CorbatanPlan}
 use Rattle.exports.specs.declared.CorbatanMeasure.{CorbatanMeasure}
 use Rattle.exports.specs.declared.CorbatanSheet.{CorbatanSheet}
+use Rattle.exports.specs.declared.CorbatanWriting.{CorbatanWriting}
 use Rattle.exports.specs.declared.CorbatanText.{CorbatanText}
 
 -- a plan's numbers, or a refusal's
@@ -63,6 +66,13 @@ flatSheet code place s =
 -- the same with a verdict's code and place
 abbrev pub flatReading : Reading → CorbatanSheet
 flatReading r = flatSheet (codeOf (r .verdict)) (placeOf (r .verdict)) (r .sheet)
+
+-- a written sheet's numbers, or a refusal's (02, 2026-01)
+abbrev pub writingFields : writer.WritingNumbers → CorbatanWriting
+writingFields n = record { code = n .code; place = n .place; count = n .count }
+
+abbrev pub flatWriting : Writing → CorbatanWriting
+flatWriting a = writingFields (writer.writingNumbers a)
 
 abbrev pub flatText : Printed → CorbatanText
 flatText t = record { count = t .count; bytes = t .bytes }

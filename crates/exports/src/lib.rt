@@ -7,13 +7,14 @@ use printed::Printed;
 use street::Street;
 use street::Verdict;
 use street::code_number;
+use writer::Writing;
 ghost use mathlib.Core.Path.{_≡_};
 ghost use Rattle.street.specs.Codes.{codeOf, placeOf};
 ghost use Rattle.street.specs.Lists.{typed};
 ghost use Rattle.widths.specs.declared.Request.the-variants.{Equal, Outbound, Inbound, Platoons};
 ghost use Rattle.bands.specs.Measure.{measurementOf};
-ghost use Rattle.exports.specs.Flat.{flatPlan, flatMeasure};
-ghost use Rattle.exports.specs.Calls.{FlatRequested, FlatReads, FlatPrints};
+ghost use Rattle.exports.specs.Flat.{flatPlan, flatMeasure, flatWriting};
+ghost use Rattle.exports.specs.Calls.{FlatRequested, FlatReads, FlatWrites, FlatPrints};
 
 // A plan's numbers or a refusal's, with document 01's number for the refusal. Widths, B and instants are in halves.
 #[repr(C)]
@@ -51,6 +52,14 @@ pub struct CorbatanSheet {
     pub distances: [u32; Street::MAX_SIGNALS],
     pub outbound: [u32; Street::MAX_SIGNALS],
     pub inbound: [u32; Street::MAX_SIGNALS],
+}
+
+// The length of a sheet that was written, or a refusal's numbers, with a length of 0.
+#[repr(C)]
+pub struct CorbatanWriting {
+    pub code: u32,
+    pub place: u32,
+    pub count: usize,
 }
 
 // A printed text: its length, and its bytes with zeros behind them.
@@ -120,6 +129,26 @@ fn measure(answer: Measurement) -> CorbatanMeasure
                 outbound_start: 0,
                 inbound_width: 0,
                 inbound_start: 0,
+            }
+        }
+    }
+}
+
+fn writing(answer: Writing) -> CorbatanWriting
+    ensures { λ r. ⌜ r ≡ flatWriting answer ⌝ }
+{
+    match answer {
+        Writing::Wrote(count) => CorbatanWriting {
+            code: 0,
+            place: 0,
+            count,
+        },
+        Writing::Refused(f) => {
+            let code = f.code;
+            CorbatanWriting {
+                code: code_number(code),
+                place: f.place,
+                count: 0,
             }
         }
     }
@@ -295,6 +324,21 @@ pub extern "C" fn corbatan_read(bytes: &[u8]) -> CorbatanSheet
         outbound,
         inbound,
     }
+}
+
+// The sheet of a street in the first bytes of the lent list; a refusal leaves the list as it was.
+#[no_mangle]
+pub extern "C" fn corbatan_write(
+    cycle: u32,
+    reds: &[u32],
+    distances: &[u32],
+    outbound: &[u32],
+    inbound: &[u32],
+    bytes: &mut [u8],
+) -> CorbatanWriting
+    ensures { λ r. ⌜ FlatWrites (typed cycle (now (reds .entry)) (now (distances .entry)) (now (outbound .entry)) (now (inbound .entry))) (now (bytes .entry)) (now (bytes .exit)) r ⌝ }
+{
+    writing(writer::write(cycle, reds, distances, outbound, inbound, bytes))
 }
 
 // The printed equal plan of a sheet's bytes, or the line of its refusal. The list for the offsets has room for every street.

@@ -1,0 +1,28 @@
+-- `exports::writing` meets its contract: each case of the answer has the fields that its numbers have. Assumes nothing.
+use mathlib.Core.Path.{sym, ap, _∙_}
+use Rattle.exports.specs.Flat.{flatWriting}
+use Rattle.exports.proofs.Laws.{writing-refused}
+use borrow.Author.Needs.{needs}
+use Rattle.exports.proofs.writing.Statement.{statement}
+use Rattle.exports.proofs.writing.Tie as tie
+
+enum-known-answer : tie.Need-enum-known-answer
+enum-known-answer c = search needs
+
+enum-known-answer-2 : tie.Need-enum-known-answer-2
+enum-known-answer-2 c = search needs
+
+code-number-requires : tie.Need-code-number-requires
+code-number-requires c κs = search needs
+
+returns : tie.Need-returns
+returns c = ap flatWriting (sym (c .before .answer .given .1))
+
+returns-2 : tie.Need-returns-2
+returns-2 c =
+    let at-answer = c .before .before in
+    writing-refused (at-answer .answer2 .given .0 .0) (c .code-number .result) (c .code-number .ensures) ∙ ap flatWriting (sym (at-answer .answer2 .given .1))
+
+pub writing-spec : {M : Type 1} → statement M
+writing-spec =
+    tie.close (tie.spec enum-known-answer enum-known-answer-2 code-number-requires returns returns-2)
