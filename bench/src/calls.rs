@@ -1,7 +1,9 @@
-//! The four calls that are timed, as all three programs take and answer them.
+//! The five calls that are timed, as all three programs take and answer them.
 
-/// How many signals a street can have, and how long a lent list is here.
+/// How many signals a street can have, and how long a lent list of offsets is here.
 pub const MAX_SIGNALS: usize = 32;
+/// How many bytes a sheet can have, and how long a lent list of bytes is here.
+pub const LARGEST_SHEET: usize = 2_048;
 
 #[repr(C)]
 #[derive(Clone, Copy, Debug, Default, PartialEq)]
@@ -41,6 +43,14 @@ pub struct Sheet {
     pub inbound: [u32; MAX_SIGNALS],
 }
 
+#[repr(C)]
+#[derive(Clone, Copy, Debug, Default, PartialEq)]
+pub struct Writing {
+    pub code: u32,
+    pub place: u32,
+    pub count: usize,
+}
+
 /// A refusal's code and place.
 pub type Refusal = (u32, u32);
 
@@ -62,6 +72,12 @@ impl From<Refusal> for Sheet {
     }
 }
 
+impl From<Refusal> for Writing {
+    fn from((code, place): Refusal) -> Writing {
+        Writing { code, place, ..Writing::default() }
+    }
+}
+
 /// One of the three programs. Every method is one call of a function that is not inlined.
 pub trait Calls {
     fn read(bytes: &[u8]) -> Sheet;
@@ -80,6 +96,9 @@ pub trait Calls {
     ) -> Plan;
 
     fn measure(cycle: u32, reds: &[u32], distances: &[u32], out: &[u32], back: &[u32], offsets: &[u32]) -> Measure;
+
+    /// The street's sheet, into the lent bytes.
+    fn write(cycle: u32, reds: &[u32], distances: &[u32], out: &[u32], back: &[u32], bytes: &mut [u8]) -> Writing;
 }
 
 /// A program whose calls are those of the modules beside it.
@@ -128,6 +147,18 @@ macro_rules! program {
                 offsets: &[u32],
             ) -> Measure {
                 bands::measure(cycle, reds, distances, out, back, offsets)
+            }
+
+            #[inline(always)]
+            fn write(
+                cycle: u32,
+                reds: &[u32],
+                distances: &[u32],
+                out: &[u32],
+                back: &[u32],
+                bytes: &mut [u8],
+            ) -> Writing {
+                writer::write(cycle, reds, distances, out, back, bytes)
             }
         }
     };

@@ -1,6 +1,6 @@
 //! The streets that are timed: pseudo-random, the same in every run, and none that a check refuses.
 
-use crate::calls::{Calls, MAX_SIGNALS};
+use crate::calls::{Calls, LARGEST_SHEET, MAX_SIGNALS};
 use crate::plain::{range, Plain};
 
 pub const SIGNALS: [usize; 4] = [1, 2, 10, 32];
@@ -36,7 +36,8 @@ impl Reds {
     }
 }
 
-/// A street as lists and as a sheet, the width that a moved plan asks for, the offsets to measure and the lent list.
+/// A street as lists and as a sheet, the width that a moved plan asks for, the offsets to measure, and the lent lists,
+/// one of offsets and one of bytes.
 #[derive(Clone, Debug)]
 pub struct Case {
     pub cycle: u32,
@@ -48,6 +49,7 @@ pub struct Case {
     pub width: u32,
     pub measured: Vec<u32>,
     pub lent: Vec<u32>,
+    pub bytes: Vec<u8>,
 }
 
 /// The generator SplitMix64.
@@ -90,22 +92,19 @@ impl Case {
             width: 0,
             measured: Vec::new(),
             lent: vec![0; MAX_SIGNALS],
+            // No sheet has a byte 7, so one that a call leaves alone shows.
+            bytes: vec![7; LARGEST_SHEET],
         };
         case.complete();
         case
     }
 
     /// Works out what the calls need besides the lists: the sheet, the middle of the range of widths, equal offsets.
-    fn complete(&mut self) {
-        let mut sheet = format!("1\n{}\n{}\n", self.cycle, self.reds.len());
-        for (distance, red) in self.distances.iter().zip(&self.reds) {
-            sheet += &format!("{} {}\n", distance, red);
-        }
-        sheet += &format!("{}\n", self.out.len());
-        for (out, back) in self.out.iter().zip(&self.back) {
-            sheet += &format!("{} {}\n", out, back);
-        }
-        self.sheet = sheet.into_bytes();
+    pub fn complete(&mut self) {
+        let mut sheet = vec![0; LARGEST_SHEET];
+        let writing = Plain::write(self.cycle, &self.reds, &self.distances, &self.out, &self.back, &mut sheet);
+        sheet.truncate(writing.count);
+        self.sheet = sheet;
         let (least, most) = range(self);
         self.width = ((least + most) / 2) as u32;
         let mut offsets = vec![0; self.reds.len()];

@@ -2,9 +2,10 @@
 //!
 //! A C function that returns a struct too large for registers gets the place for it as its first argument and answers
 //! that place. So the calling convention of x86-64 has it, and so the functions are declared here: another processor may
-//! hand the place over otherwise, and then the library's code, compiled for it, does not.
+//! hand the place over otherwise, and then the library's code, compiled for it, does not. A `Writing` has 16 bytes: on
+//! x86-64 and on aarch64 alike it comes back in two registers, so its function is declared as the header has it.
 
-use crate::calls::{Calls, Measure, Plan, Sheet};
+use crate::calls::{Calls, Measure, Plan, Sheet, Writing};
 use std::mem::MaybeUninit;
 
 extern "C" {
@@ -55,6 +56,20 @@ extern "C" {
         offsets: *const u32,
         offsets_count: usize,
     ) -> *mut Measure;
+
+    fn corbatan_write(
+        cycle: u32,
+        reds: *const u32,
+        reds_count: usize,
+        distances: *const u32,
+        distances_count: usize,
+        out: *const u32,
+        out_count: usize,
+        back: *const u32,
+        back_count: usize,
+        bytes: *mut u8,
+        bytes_count: usize,
+    ) -> Writing;
 }
 
 pub struct Library;
@@ -68,8 +83,8 @@ fn reply<T>(call: impl FnOnce(*mut T) -> *mut T) -> T {
     unsafe { place.assume_init() }
 }
 
-// SAFETY, of every call below: the place is that of the reply, a slice's pointer and length are what the header asks
-// for, and a lent list, which is borrowed for writing, overlaps no input.
+// SAFETY, of every call below: a place is that of the reply, a slice's pointer and length are what the header asks for,
+// and a lent list, which is borrowed for writing, overlaps no input.
 impl Calls for Library {
     #[inline(always)]
     fn read(bytes: &[u8]) -> Sheet {
@@ -143,5 +158,24 @@ impl Calls for Library {
                 offsets.len(),
             )
         })
+    }
+
+    #[inline(always)]
+    fn write(cycle: u32, reds: &[u32], distances: &[u32], out: &[u32], back: &[u32], bytes: &mut [u8]) -> Writing {
+        unsafe {
+            corbatan_write(
+                cycle,
+                reds.as_ptr(),
+                reds.len(),
+                distances.as_ptr(),
+                distances.len(),
+                out.as_ptr(),
+                out.len(),
+                back.as_ptr(),
+                back.len(),
+                bytes.as_mut_ptr(),
+                bytes.len(),
+            )
+        }
     }
 }

@@ -87,7 +87,7 @@ fn greatest(lines: &[Line], about: impl Fn(&Line) -> bool, ratios: impl Fn(&Line
 fn summary(all: &[Vec<Line>]) {
     println!("**The greatest ratio of the best times in each table**\n");
     let names: Vec<&str> = CALLS.iter().map(|call| call.name()).collect();
-    println!("| Against | {} |\n|---|---|---|---|---|", names.join(" | "));
+    println!("| Against | {} |\n|---{}|", names.join(" | "), "|---".repeat(names.len()));
     let most = *SIGNALS.last().unwrap_or(&0);
     let row = |name: &str, worst: &dyn Fn(&[Line]) -> f64| {
         let cells: Vec<String> = all.iter().map(|lines| format!("{:.3}", worst(lines))).collect();

@@ -16,9 +16,10 @@ pub enum Call {
     Equal,
     Moved,
     Measure,
+    Write,
 }
 
-pub const CALLS: [Call; 4] = [Call::Read, Call::Equal, Call::Moved, Call::Measure];
+pub const CALLS: [Call; 5] = [Call::Read, Call::Equal, Call::Moved, Call::Measure, Call::Write];
 
 impl Call {
     pub fn name(self) -> &'static str {
@@ -27,6 +28,7 @@ impl Call {
             Call::Equal => "The equal plan",
             Call::Moved => "A moved plan",
             Call::Measure => "The measure",
+            Call::Write => "Writing a sheet",
         }
     }
 }
@@ -50,6 +52,7 @@ pub fn repeat<T: Calls>(call: Call, cases: &mut [Case], rounds: usize) {
                 Call::Equal => keep(&mut T::equal(*cycle, reds, distances, out, back, &mut case.lent)),
                 Call::Moved => keep(&mut T::moved(*cycle, reds, distances, out, back, case.width, &mut case.lent)),
                 Call::Measure => keep(&mut T::measure(*cycle, reds, distances, out, back, &case.measured)),
+                Call::Write => keep(&mut T::write(*cycle, reds, distances, out, back, &mut case.bytes)),
             }
         }
     }

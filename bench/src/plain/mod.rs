@@ -5,8 +5,9 @@ mod bands;
 mod plans;
 mod sheet;
 mod street;
+mod writer;
 
-use crate::calls::{program, Calls, Measure, Plan, Sheet};
+use crate::calls::{program, Calls, Measure, Plan, Sheet, Writing};
 use crate::inputs::Case;
 
 program!(Plain);

@@ -1,6 +1,6 @@
 //! The sheet reader, with the standard library's lines, words and numbers.
 
-use crate::calls::{Refusal, Sheet, MAX_SIGNALS};
+use crate::calls::{Refusal, Sheet, LARGEST_SHEET, MAX_SIGNALS};
 
 const BAD: Refusal = (1, 0);
 
@@ -23,7 +23,7 @@ fn pair<'a>(lines: &mut impl Iterator<Item = &'a str>) -> Result<(u32, u32), Ref
 }
 
 fn sheet(bytes: &[u8]) -> Result<Sheet, Refusal> {
-    if bytes.len() > 2_048 {
+    if bytes.len() > LARGEST_SHEET {
         return Err(BAD);
     }
     // What is no ASCII is no digit either, and stands for itself as a fault.

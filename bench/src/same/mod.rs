@@ -5,7 +5,8 @@ mod plans;
 mod search;
 mod sheet;
 mod street;
+mod writer;
 
-use crate::calls::{program, Calls, Measure, Plan, Sheet};
+use crate::calls::{program, Calls, Measure, Plan, Sheet, Writing};
 
 program!(Same);

@@ -1,6 +1,6 @@
 //! The sheet reader: one pass with a cursor, a number at a time up to the byte that ends it.
 
-use crate::calls::{Refusal, Sheet, MAX_SIGNALS};
+use crate::calls::{Refusal, Sheet, LARGEST_SHEET, MAX_SIGNALS};
 
 const BAD: Refusal = (1, 0);
 
@@ -48,7 +48,7 @@ fn section(
 }
 
 fn fill(s: &mut Sheet, bytes: &[u8]) -> Result<(), Refusal> {
-    if bytes.len() > 2_048 {
+    if bytes.len() > LARGEST_SHEET {
         return Err(BAD);
     }
     let (count, at) = number(bytes, 0, b'\n')?;

@@ -16,7 +16,15 @@ fn place(index: usize) -> u32 {
     index as u32 + 1
 }
 
-fn judge(cycle: u32, reds: &[u32], distances: &[u32], out: &[u32], back: &[u32], lent: usize) -> Result<(), Refusal> {
+/// The first fault of a street and of the room for its offsets.
+pub fn judge(
+    cycle: u32,
+    reds: &[u32],
+    distances: &[u32],
+    out: &[u32],
+    back: &[u32],
+    lent: usize,
+) -> Result<(), Refusal> {
     let n = reds.len();
     if !(1..=MAX_SIGNALS).contains(&n) || distances.len() != n || out.len() != n - 1 || back.len() != n - 1 {
         return Err((2, 0));
