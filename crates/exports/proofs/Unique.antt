@@ -4,6 +4,7 @@ use mathlib.Core.Path.{_≡_, sym, ap, _∙_}
 use mathlib.Core.List.{List}
 use Rattle.road.specs.Limits.{maxSignals}
 use Rattle.street.specs.Lists.{Lists}
+use Rattle.street.proofs.Unique.{Same, same}
 use Rattle.sheet.proofs.Unique as sheet
 use Rattle.widths.specs.declared.Request.{Request}
 use Rattle.bands.specs.Measure.{measurementOf}
@@ -16,15 +17,9 @@ use Rattle.exports.specs.declared.CorbatanText.{CorbatanText}
 use Rattle.exports.specs.Flat.{flatMeasure, flatReading, flatText}
 use Rattle.exports.specs.Calls.{FlatRequested, FlatReads, FlatWrites, FlatPrints}
 
--- one reply, and one final list
-pub record Same {A : Type 0} (r r′ : A) (exit exit′ : List ℕ) : Type 0 where
-  pub reply : r ≡ r′
-  pub after : exit ≡ exit′
-
 -- of any request, and so of each of the four calls
 pub requested-unique : (asked : Request) (l : Lists) (entry exit exit′ : List ℕ) (r r′ : CorbatanPlan) → FlatRequested asked l entry exit r → FlatRequested asked l entry exit′ r′ → Same r r′ exit exit′
-requested-unique asked l entry exit exit′ r r′ one other =
-    record { reply = one .reply ∙ sym (other .reply); after = one .after ∙ sym (other .after) }
+requested-unique asked l entry exit exit′ r r′ one other = same (one .reply) (other .reply) (one .after) (other .after)
 
 pub measure-unique : (l : Lists) (offsets : List ℕ) (r r′ : CorbatanMeasure) → r ≡ flatMeasure (measurementOf l offsets) → r′ ≡ flatMeasure (measurementOf l offsets) → r ≡ r′
 measure-unique l offsets r r′ one other = one ∙ sym other
@@ -34,8 +29,7 @@ read-unique bytes r r′ one other =
     one .reply ∙ ap flatReading (sheet.read-unique bytes (one .reading) (other .reading) (one .reads) (other .reads)) ∙ sym (other .reply)
 
 pub write-unique : (l : Lists) (entry exit exit′ : List ℕ) (r r′ : CorbatanWriting) → FlatWrites l entry exit r → FlatWrites l entry exit′ r′ → Same r r′ exit exit′
-write-unique l entry exit exit′ r r′ one other =
-    record { reply = one .reply ∙ sym (other .reply); after = one .after ∙ sym (other .after) }
+write-unique l entry exit exit′ r r′ one other = same (one .reply) (other .reply) (one .after) (other .after)
 
 pub print-unique : (bytes : List ℕ) (r r′ : CorbatanText) → FlatPrints bytes r → FlatPrints bytes r′ → r ≡ r′
 print-unique bytes r r′ one other =

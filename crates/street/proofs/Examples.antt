@@ -1,10 +1,13 @@
--- Each check at the ends of what it lets pass, by its verdict's number or place: 0 where it passes. Assumes nothing.
+-- Each check at the ends of what it lets pass, by its verdict's number or place, 0 where it passes; and what a call leaves in a lent list. Assumes nothing.
 use Prim.Native.Nat.{ℕ}
 use mathlib.Core.Path.{_≡_, refl}
 use mathlib.Core.List.{List, [], _∷_, map}
 use Rattle.circle.specs.Over.{firstBelow}
 use Rattle.street.specs.Codes.{codeOf, placeOf}
-use Rattle.street.specs.Checks.{countCheck, roomCheck, cycleCheck, redCheck, distanceCheck, speedCheck}
+use Rattle.street.specs.Checks.{refuse, countCheck, roomCheck, cycleCheck, redCheck, distanceCheck, speedCheck, written}
+use Rattle.street.specs.declared.Code.the-variants.{Room}
+use Rattle.street.specs.declared.Verdict.{Verdict}
+use Rattle.street.specs.declared.Verdict.the-variants.{Passed}
 
 -- signals, distances, outbound and inbound speeds: 1 and 32 signals pass; 0 and 33 do not, nor do a distance too few, an outbound speed too many and an inbound one too few
 counts : map codeOf (countCheck 1 1 0 0 ∷ countCheck 32 32 31 31 ∷ countCheck 0 0 0 0 ∷ countCheck 33 33 32 32 ∷ []) ≡ 0 ∷ 0 ∷ 2 ∷ 2 ∷ []
@@ -37,3 +40,7 @@ distances = refl
 speeds : map placeOf (speedCheck (1000 ∷ 40000 ∷ []) (40000 ∷ 1000 ∷ []) ∷ speedCheck (1000 ∷ 40001 ∷ []) (1000 ∷ 1000 ∷ []) ∷ speedCheck (1000 ∷ []) (999 ∷ []) ∷ []) ≡ 0 ∷ 2 ∷ 1 ∷ []
 unfolding speedCheck firstBelow
 speeds = refl
+
+-- two entries over a lent list of three sevens: the third stays, and a refusal leaves all
+left : map (λ (v : Verdict). written v (1 ∷ 2 ∷ []) (7 ∷ 7 ∷ 7 ∷ [])) (Passed ∷ refuse Room 0 ∷ []) ≡ (1 ∷ 2 ∷ 7 ∷ []) ∷ (7 ∷ 7 ∷ 7 ∷ []) ∷ []
+left = refl

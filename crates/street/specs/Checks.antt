@@ -1,4 +1,4 @@
--- Each check of a street, and the refusal of a list of checks: its first fault (01, 'Codes, in order of checking').
+-- Each check of a street, the refusal of a list of checks, which is its first fault, and what a call leaves in a list that was lent to it (01, 'Codes, in order of checking').
 use Prim.Native.Nat.{ℕ, _+_, _-_}
 use mathlib.Core.Bool.{Bool, cond, not}
 use mathlib.Core.List.{List, [], _∷_, _++_}
@@ -86,7 +86,7 @@ speedCheck outbound inbound = faultAt Speed (firstBelow (length outbound) (badSp
 abbrev pub counts : Lists → Verdict
 counts l = countCheck (signals l) (length (l .distances)) (length (l .outbound)) (length (l .inbound))
 
--- a call's order is a list of checks. A call that lends a list opens with these
+-- a call's order is a list of checks. A call that lends a list of offsets opens with these
 abbrev pub openingChecks : Lists → ℕ → List Verdict
 openingChecks l room = counts l ∷ roomCheck (signals l) room ∷ cycleCheck (l .cycle) ∷ []
 
