@@ -1,6 +1,6 @@
 -- Writing over a list of bytes, in steps. Writing a and then b where a ends is writing a ++ b once. A digit written into its own place
 -- first leaves the digits before it to be written, and with none left the list is as it is to be. No step changes how many bytes
--- there are. Assumes nothing.
+-- there are. A loop that writes part after part keeps what of the whole is unwritten. Assumes nothing.
 use Prim.Native.Nat.{ℕ, suc, _+_, _≤_, _<_}
 use native.Mathlib.Nat.{add-zero, add-assoc}
 use native.Mathlib.Numerals.{add-one}
@@ -108,3 +108,33 @@ writes-as e w = rw (← e) w
 -- room for two parts is room for the first
 pub room-first : (at n : ℕ) (a b : List ℕ) → at + length (a ++ b) ≤ n → at + length a ≤ n
 room-first at n a b room = omega (arith, length-append a b)
+
+-- a loop writes part after part: with the rest still to be written from a place on, the list becomes what it is to become
+pub record Unwritten (at : ℕ) (whole before : List ℕ) (next : ℕ) (rest now : List ℕ) : Type 0 where
+  pub size : length now ≡ length before
+  pub end : next + length rest ≡ at + length whole
+  pub becomes : overwritten next rest now ≡ overwritten at whole before
+
+pub nothing-written : (at : ℕ) (whole before : List ℕ) → Unwritten at whole before at whole before
+nothing-written at whole before = record { size = refl; end = refl; becomes = refl }
+
+-- where a part comes first in the rest, there is room for it, and once it is written what follows is still to be
+module _ {at next : ℕ} {whole before rest now : List ℕ} (room : at + length whole ≤ length before) (l : Unwritten at whole before next rest now) (part later : List ℕ) (e : rest ≡ part ++ later) where
+  pub part-fits : next + length part ≤ length now
+  part-fits = omega (arith, room, l .size, l .end, ap length e, length-append part later)
+
+  pub part-written : {next′ : ℕ} {now′ : List ℕ} → Writes next part now now′ next′ → Unwritten at whole before next′ later now′
+  part-written w =
+      record {
+        size = writes-length part-fits w ∙ l .size;
+        end = omega (arith, w .next, l .end, ap length e, length-append part later);
+        becomes = goes-on later w (omega (arith, part-fits)) ∙ ap (λ (xs : List ℕ). overwritten next xs now) (sym e) ∙ l .becomes;
+      }
+
+-- with nothing unwritten, all is written
+pub all-written : {at next : ℕ} {whole before rest now : List ℕ} → rest ≡ [] → Unwritten at whole before next rest now → Writes at whole before now next
+all-written {at} {next} {whole} {before} {rest} {now} e l =
+    record {
+      after = sym (overwritten-none next now) ∙ ap (λ (xs : List ℕ). overwritten next xs now) (sym e) ∙ l .becomes;
+      next = omega (arith, l .end, ap length e);
+    }

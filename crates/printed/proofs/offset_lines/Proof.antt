@@ -1,37 +1,43 @@
 -- `offset_lines` meets its contract. The invariant: with the lines of the offsets from i on still to be written, the list becomes what it
 -- is to become, and there is room for them. A turn writes the first of these lines. The measure is what is left of the offsets.
 -- Assumes nothing.
-use Prim.Native.Nat.{_+_, _-_, _≤_}
+use Prim.Native.Nat.{ℕ, _+_, _-_, _<_}
 use native.Mathlib.Omega.{arith}
-use mathlib.Core.Path.{_≡_, refl, sym, ap, _∙_}
-use mathlib.Core.List.{[], _∷_, _++_}
-use lib.ListN.{length, drop, getD, length-append}
+use mathlib.Core.Path.{_≡_}
+use mathlib.Core.List.{List, [], _∷_, _++_}
+use lib.ListN.{length, drop, getD}
 use borrow.Author.Needs.{needs}
 use Rattle.decimal.specs.Decimal.{decimal}
-use Rattle.decimal.specs.Steps.{overwritten, Writes}
-use Rattle.decimal.proofs.Writing.{overwritten-none, room-first, goes-on}
+use Rattle.decimal.proofs.Writing.{Unwritten, nothing-written, part-fits, part-written, all-written}
 use Rattle.printed.specs.Text.{offsetLines}
 use Rattle.printed.proofs.Lines.{offset-line, no-offset-line}
 use Rattle.printed.proofs.offset_lines.Statement.{statement}
 use Rattle.printed.proofs.offset_lines.Tie as tie
 
 abbrev Inv-loop : tie.InvT-loop
-Inv-loop bytes₀ at offsets next₀ i₀ i-end bytes next i =
-    (length bytes ≡ length bytes₀)
-    × (next + length (offsetLines (drop i offsets)) ≡ at + length (offsetLines offsets))
-    × (overwritten next (offsetLines (drop i offsets)) bytes ≡ overwritten at (offsetLines offsets) bytes₀)
+Inv-loop bytes₀ at offsets next₀ i₀ i-end bytes next i = Unwritten at (offsetLines offsets) bytes₀ next (offsetLines (drop i offsets)) bytes
 
 abbrev μ-loop : tie.MeasureT-loop
 μ-loop bytes₀ at offsets next₀ i₀ i-end bytes next i = length offsets - i
 
--- there is room for what is left to be written
-room-here :
-    (c : tie.At-loop Inv-loop μ-loop)
-    → c .loop .next + length (offsetLines (drop (c .loop .i) (c .before .before .before .args .offsets .now))) ≤ length (c .loop .bytes)
-room-here c = omega arith
+-- the offsets, the line whose turn it is, and those after it
+abbrev Turn : Type 0
+Turn = tie.At-loop Inv-loop μ-loop
+
+abbrev offsets : Turn → List ℕ
+offsets t = t .before .before .before .args .offsets .now
+
+abbrev line : Turn → List ℕ
+line t = decimal (getD (offsets t) (t .loop .i) 0) ++ 10 ∷ []
+
+abbrev later : Turn → List ℕ
+later t = offsetLines (drop (t .loop .i + 1) (offsets t))
+
+parts : (t : Turn) → t .loop .i < length (offsets t) → offsetLines (drop (t .loop .i) (offsets t)) ≡ line t ++ later t
+parts t h = offset-line (offsets t) (t .loop .i) h
 
 loop-holds : tie.Need-loop-holds Inv-loop μ-loop
-loop-holds c = (refl, refl, refl)
+loop-holds c = nothing-written _ _ _
 
 mul-write-ended : tie.Need-mul-write-ended Inv-loop μ-loop
 mul-write-ended c = search needs
@@ -41,12 +47,8 @@ shared-slice-read-write-ended c = search needs
 
 write-ended-requires : tie.Need-write-ended-requires Inv-loop μ-loop
 write-ended-requires c κs =
-    let at-loop = c .before .before .before in
-    let h = at-loop .loop in
-    let l = at-loop .before .before .before .args .offsets .now in
-    let parts = offset-line l (h .i) (omega arith) in
-    room-first (h .next) (length (h .bytes)) (decimal (getD l (h .i) 0) ++ 10 ∷ []) (offsetLines (drop (h .i + 1) l))
-    (rw parts at (room-here at-loop))
+    let t = c .before .before .before in
+    part-fits (t .before .before .before .pre) (t .loop .inv) (line t) (later t) (parts t (omega arith))
 
 add-i : tie.Need-add-i Inv-loop μ-loop
 add-i c = search needs
@@ -56,26 +58,14 @@ loop-less c = search needs
 
 loop-again : tie.Need-loop-again Inv-loop μ-loop
 loop-again c =
-    let at-loop = c .before .before .before .before .before .before in
-    let h = at-loop .loop in
-    let l = at-loop .before .before .before .args .offsets .now in
-    let rest = offsetLines (drop (h .i + 1) l) in
-    let parts = offset-line l (h .i) (omega arith) in
-    let call = c .before .before .write-ended in
-    let line : Writes (h .next) (decimal (getD l (h .i) 0) ++ 10 ∷ []) (h .bytes) (call .last .0) (call .result) = call .ensures in (
-      omega (arith, call .kept .0),
-      omega (arith, ap length parts, length-append (decimal (getD l (h .i) 0) ++ 10 ∷ []) rest),
-      goes-on rest line (omega (arith, room-here at-loop)) ∙ rw (← parts) (h .inv .2),
-    )
+    let t = c .before .before .before .before .before .before in
+    part-written (t .before .before .before .pre) (t .loop .inv) (line t) (later t) (parts t (omega arith)) (c .before .before .write-ended .ensures)
 
 same-length : tie.Need-same-length Inv-loop μ-loop
 same-length c = search needs
 
 returns : tie.Need-returns Inv-loop μ-loop
-returns c =
-    let h = c .before .loop in
-    let none = no-offset-line (c .before .before .before .before .args .offsets .now) (h .i) (omega arith) in
-    record { after = sym (overwritten-none (h .next) (h .bytes)) ∙ (rw none at (h .inv .2)); next = omega (arith, ap length none) }
+returns c = all-written (no-offset-line (offsets (c .before)) (c .before .loop .i) (omega arith)) (c .before .loop .inv)
 
 pub offset-lines-spec : {M : Type 1} → statement M
 offset-lines-spec =

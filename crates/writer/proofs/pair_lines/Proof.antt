@@ -2,27 +2,23 @@
 -- A turn writes the first of these lines, in two items. The measure is what is left of the pairs. Assumes nothing.
 use Prim.Native.Nat.{ℕ, _+_, _-_, _≤_, _<_}
 use native.Mathlib.Omega.{arith}
-use mathlib.Core.Path.{_≡_, refl, sym, ap, _∙_}
+use mathlib.Core.Path.{_≡_}
 use mathlib.Core.List.{List, _++_}
-use lib.ListN.{length, drop, getD, length-append}
+use lib.ListN.{length, drop, getD}
 use borrow.Author.Needs.{needs}
-use Rattle.decimal.specs.Steps.{overwritten, Writes}
-use Rattle.decimal.proofs.Writing.{overwritten-none, room-first, room-left, goes-on, writes-length, writes-twice}
+use Rattle.decimal.proofs.Writing.{room-first, room-left, writes-twice, Unwritten, nothing-written, part-fits, part-written, all-written}
 use Rattle.sheet.specs.Form.{pairLines}
 use Rattle.writer.proofs.Lines.{left-item, right-item, pair-line, no-pair-line}
 use Rattle.writer.proofs.pair_lines.Statement.{statement}
 use Rattle.writer.proofs.pair_lines.Tie as tie
 
 abbrev Inv-loop : tie.InvT-loop
-Inv-loop bytes₀ at left right next₀ i₀ i-end bytes next i =
-    (length bytes ≡ length bytes₀)
-    × (next + length (pairLines (drop i left) (drop i right)) ≡ at + length (pairLines left right))
-    × (overwritten next (pairLines (drop i left) (drop i right)) bytes ≡ overwritten at (pairLines left right) bytes₀)
+Inv-loop bytes₀ at left right next₀ i₀ i-end bytes next i = Unwritten at (pairLines left right) bytes₀ next (pairLines (drop i left) (drop i right)) bytes
 
 abbrev μ-loop : tie.MeasureT-loop
 μ-loop bytes₀ at left right next₀ i₀ i-end bytes next i = length left - i
 
--- the columns, and the bytes of the pair whose turn it is
+-- the columns, the two items of the line whose turn it is, and the lines after it
 abbrev Turn : Type 0
 Turn = tie.At-loop Inv-loop μ-loop
 
@@ -41,16 +37,19 @@ second t = right-item (getD (rights t) (t .loop .i) 0)
 abbrev later : Turn → List ℕ
 later t = pairLines (drop (t .loop .i + 1) (lefts t)) (drop (t .loop .i + 1) (rights t))
 
--- there is room for that pair's line
-room-here :
-    (t : Turn) → t .loop .i < length (lefts t) → t .loop .i < length (rights t) → t .loop .next + length (first t ++ second t) ≤ length (t .loop .bytes)
-room-here t h k =
-    let parts = pair-line (lefts t) (rights t) (t .loop .i) h k in
-    room-first (t .loop .next) (length (t .loop .bytes)) (first t ++ second t) (later t)
-    (omega (arith, ap length parts, t .loop .inv, t .before .before .before .before .pre))
+-- a turn, which has both numbers, and that there is room for its line
+record Whole (t : Turn) : Type 0 where
+  left : t .loop .i < length (lefts t)
+  right : t .loop .i < length (rights t)
+
+parts : (t : Turn) → Whole t → pairLines (drop (t .loop .i) (lefts t)) (drop (t .loop .i) (rights t)) ≡ (first t ++ second t) ++ later t
+parts t h = pair-line (lefts t) (rights t) (t .loop .i) (h .left) (h .right)
+
+room : (t : Turn) → Whole t → t .loop .next + length (first t ++ second t) ≤ length (t .loop .bytes)
+room t h = part-fits (t .before .before .before .before .pre .0) (t .loop .inv) (first t ++ second t) (later t) (parts t h)
 
 loop-holds : tie.Need-loop-holds Inv-loop μ-loop
-loop-holds c = (refl, refl, refl)
+loop-holds c = nothing-written _ _ _
 
 mul-write-ended : tie.Need-mul-write-ended Inv-loop μ-loop
 mul-write-ended c = search needs
@@ -61,7 +60,7 @@ shared-slice-read-write-ended c = search needs
 write-ended-requires : tie.Need-write-ended-requires Inv-loop μ-loop
 write-ended-requires c κs =
     let t = c .before .before .before in
-    room-first (t .loop .next) (length (t .loop .bytes)) (first t) (second t) (room-here t (omega arith) (omega arith))
+    room-first (t .loop .next) (length (t .loop .bytes)) (first t) (second t) (room t (record { left = omega arith; right = omega arith }))
 
 mul-write-ended-2 : tie.Need-mul-write-ended-2 Inv-loop μ-loop
 mul-write-ended-2 c = search needs
@@ -71,9 +70,9 @@ shared-slice-read-write-ended-2 c = search needs
 
 write-ended-requires-2 : tie.Need-write-ended-requires-2 Inv-loop μ-loop
 write-ended-requires-2 c κs =
-    let written = c .before .before .before .before in
-    let t = written .before .before .before .before in
-    room-left (second t) (written .write-ended .ensures) (room-here t (omega arith) (omega arith))
+    let half = c .before .before .before .before in
+    let t = half .before .before .before .before in
+    room-left (second t) (half .write-ended .ensures) (room t (record { left = omega arith; right = omega arith }))
 
 add-i : tie.Need-add-i Inv-loop μ-loop
 add-i c = search needs
@@ -86,17 +85,9 @@ loop-again c =
     let whole = c .before .before in
     let half = whole .before .before .before .before .before in
     let t = half .before .before .before .before in
-    let h = t .loop in
-    let parts = pair-line (lefts t) (rights t) (h .i) (omega arith) (omega arith) in
-    let room = room-here t (omega arith) (omega arith) in
-    let within : h .next ≤ length (h .bytes) = omega arith in
-    let item : Writes (h .next) (first t) (h .bytes) (half .write-ended .last .0) (half .write-ended .result) = half .write-ended .ensures in
-    let line : Writes (h .next) (first t ++ second t) (h .bytes) (whole .write-ended2 .last .0) (whole .write-ended2 .result) =
-    writes-twice within item (whole .write-ended2 .ensures) in (
-      writes-length room line ∙ h .inv .0,
-      omega (arith, ap length parts, length-append (first t ++ second t) (later t), line .next, h .inv .1),
-      goes-on (later t) line within ∙ rw (← parts) (h .inv .2),
-    )
+    let here : Whole t = record { left = omega arith; right = omega arith } in
+    part-written (t .before .before .before .before .pre .0) (t .loop .inv) (first t ++ second t) (later t) (parts t here)
+    (writes-twice (omega (arith, room t here)) (half .write-ended .ensures) (whole .write-ended2 .ensures))
 
 same-length : tie.Need-same-length Inv-loop μ-loop
 same-length c = search needs
@@ -104,11 +95,7 @@ same-length c = search needs
 returns : tie.Need-returns Inv-loop μ-loop
 returns c =
     let t = c .before in
-    let none = no-pair-line (lefts t) (rights t) (t .loop .i) (omega arith) in
-    record {
-      after = sym (overwritten-none (t .loop .next) (t .loop .bytes)) ∙ (rw none at (t .loop .inv .2));
-      next = omega (arith, ap length none, t .loop .inv);
-    }
+    all-written (no-pair-line (lefts t) (rights t) (t .loop .i) (omega arith)) (t .loop .inv)
 
 pub pair-lines-spec : {M : Type 1} → statement M
 pair-lines-spec =
