@@ -50,8 +50,8 @@
 
 /* The version of this interface: the major number changes when a program that uses it has to change. */
 #define CORBATAN_VERSION_MAJOR 1
-#define CORBATAN_VERSION_MINOR 2
-#define CORBATAN_VERSION "1.2"
+#define CORBATAN_VERSION_MINOR 3
+#define CORBATAN_VERSION "1.3"
 
 /* How many signals a street can have, and so how long the lists in a CorbatanSheet are. */
 #define CORBATAN_MAX_SIGNALS 32
@@ -197,7 +197,10 @@ CorbatanPlan corbatan_inbound(
     uint32_t width,
     uint32_t *offsets, size_t offsets_count);
 
-/* Plans by the lengths of the two directions' platoons, in halves. */
+/*
+ * Plans by the lengths of the two directions' platoons, in halves. A direction whose platoon leaves the other one no band
+ * gets the widest band that the signals let through; up to version 1.2 not where both platoons fit into twice B.
+ */
 CorbatanPlan corbatan_platoons(
     uint32_t cycle,
     const uint32_t *reds, size_t reds_count,

@@ -2,14 +2,14 @@
 
 use crate::cases::{request, Request};
 use crate::equal::Plan;
-use crate::moved::{plan, shortest_green, Ask, MAX_PLATOON};
+use crate::moved::{papers_width, plan, shortest_green, Ask, MAX_PLATOON};
 use crate::offsets::LARGEST;
 use crate::sheet::read;
 use crate::street::{Refusal, Street, MAX_SIGNALS};
 use crate::tally::Tally;
 use crate::trial::Case;
 
-const WANTED: [(&str, usize); 43] = [
+const WANTED: [(&str, usize); 48] = [
     ("requests", 5_000),
     ("planned", 2_000),
     ("planned with 20 signals or more", 500),
@@ -45,6 +45,11 @@ const WANTED: [(&str, usize); 43] = [
     ("shares rounded down", 20),
     ("shared, outbound", 20),
     ("shared, inbound", 20),
+    ("share of all, outbound", 15),
+    ("share of all, inbound", 15),
+    ("wider than the paper has it, outbound", 15),
+    ("wider than the paper has it, inbound", 15),
+    ("one half left beside less than g", 10),
     ("share cut to g, outbound", 20),
     ("share cut to g, inbound", 20),
     ("larger as it is, outbound", 10),
@@ -113,21 +118,24 @@ fn note_plan(tally: &mut Tally, street: &Street, ask: Ask, plan: &Plan) {
             tally.note("width asked at its least", width == plan.best.max(1));
             tally.note("width asked at its most", width == g);
         }
-        Ask::Platoons(out, back) => note_platoons(tally, (out, back), plan.best, g),
+        Ask::Platoons(out, back) => note_platoons(tally, (out, back), plan, g),
         Ask::Equal => panic!("nothing asks for an equal plan here"),
     }
 }
 
-fn note_platoons(tally: &mut Tally, (out, back): (i64, i64), best: i64, g: i64) {
-    let (larger, sum) = (out.max(back), out + back);
+fn note_platoons(tally: &mut Tally, (out, back): (i64, i64), plan: &Plan, g: i64) {
+    let (larger, sum, best) = (out.max(back), out + back, plan.best);
     tally.note("platoons alike", out == back);
     tally.note("platoons alike and 0", sum == 0);
     tally.note("platoons at their longest", larger == MAX_PLATOON);
     if out == back {
         return;
     }
-    let (branch, side) = (branch(larger, sum, best, g), if out > back { "outbound" } else { "inbound" });
+    let (given, side) = if out > back { (plan.outbound, "outbound") } else { (plan.inbound, "inbound") };
+    let (branch, papers) = (branch(larger, sum, best, g), papers_width(larger, sum, best, g));
     tally.note(&format!("{branch}, {side}"), true);
+    tally.note(&format!("wider than the paper has it, {side}"), given > papers);
+    tally.note("one half left beside less than g", 2 * best - given == 1 && given < g);
     tally.note("shares rounded down", branch == "shared" && 2 * best * larger % sum > 0);
     tally.note("platoons with nothing on one side", larger == sum);
     tally.note("platoons with B 0 or less", best <= 0);
@@ -139,6 +147,8 @@ fn note_platoons(tally: &mut Tally, (out, back): (i64, i64), best: i64, g: i64) 
 fn branch(larger: i64, sum: i64, best: i64, g: i64) -> &'static str {
     if sum <= 2 * best && 2 * best * larger / sum > g {
         "share cut to g"
+    } else if sum <= 2 * best && larger == sum {
+        "share of all"
     } else if sum <= 2 * best {
         "shared"
     } else if larger.min(g) >= 2 * best {

@@ -30,6 +30,7 @@ fn width(random: &mut Random, best: i64, g: i64) -> i64 {
 fn platoons(random: &mut Random, best: i64, g: i64) -> Ask {
     let twice = 2 * best.max(0);
     let (out, back) = match random.below(9) {
+        _ if 0 < twice && twice < g && random.one_in(2) => beside_little(random, twice),
         0 => {
             let any = random.within(0, twice + g);
             [(0, 0), (any, any), (MAX_PLATOON, MAX_PLATOON)][random.below(3)]
@@ -56,6 +57,12 @@ fn split(random: &mut Random, sum: i64) -> (i64, i64) {
     let (any, near) = (random.within(0, sum), random.within(3 * sum / 8, sum / 2));
     let one = random.pick(&[0, any, any, near, near, sum / 2, (sum / 2 - 1).max(0)]);
     (one, sum - one)
+}
+
+/// A platoon of at most 2B or just above it, beside none or one of a single half.
+fn beside_little(random: &mut Random, twice: i64) -> (i64, i64) {
+    let any = random.within(1, twice);
+    (random.pick(&[any, twice - 1, twice - 1, twice, twice + 1]), random.pick(&[0, 0, 1]))
 }
 
 fn edge(random: &mut Random, best: i64, g: i64) -> i64 {

@@ -31,19 +31,25 @@ pub fn shortest_green(street: &Street) -> i64 {
     street.reds.iter().map(|red| street.halves() - 2 * red).min().expect("a street has a signal")
 }
 
-/// The width that two platoons ask for, and the side that gets it.
-pub fn platoon_rule(out: i64, back: i64, best: i64, g: i64) -> Ask {
-    if out == back {
-        return Ask::Equal;
-    }
-    let (larger, sum) = (out.max(back), out + back);
-    let width = if sum <= 2 * best {
+/// The width that the paper prints for the larger of two platoons, by the sum of both.
+pub fn papers_width(larger: i64, sum: i64, best: i64, g: i64) -> i64 {
+    if sum <= 2 * best {
         (2 * best * larger / sum).min(g)
     } else if 2 * best - larger.min(g) <= 0 {
         g
     } else {
         larger.min(g)
-    };
+    }
+}
+
+/// The width that two platoons ask for, and the side that gets it: the paper's, but g wherever that leaves the other
+/// side nothing.
+pub fn platoon_rule(out: i64, back: i64, best: i64, g: i64) -> Ask {
+    if out == back {
+        return Ask::Equal;
+    }
+    let papers = papers_width(out.max(back), out + back, best, g);
+    let width = if 2 * best - papers <= 0 { g } else { papers };
     if out > back {
         Ask::Outbound(width)
     } else {

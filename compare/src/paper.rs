@@ -4,7 +4,7 @@ use crate::bands::measure;
 use crate::decimal::{decimal, nearest, number, seconds};
 use crate::equal::{Pairs, Plan};
 use crate::exact::Fine;
-use crate::moved::{plan, shortest_green, Ask};
+use crate::moved::{papers_width, plan, shortest_green, Ask};
 use crate::page::{street, Page};
 use crate::street::{Street, Times, MAX_SIGNALS};
 
@@ -90,6 +90,31 @@ pub fn sample(page: &Page) -> Vec<String> {
         told.push(format!("| `paper-sample.txt` | `measure {}` |", listed(&plan.offsets)));
     }
     told
+}
+
+/// One platoon alone, and that no other request of the page gets another width than the paper's rule has for it.
+pub fn alone(page: &Page) -> Vec<String> {
+    let sample = street("paper-sample.txt");
+    let (plan, g) = (asked(&sample, Ask::Platoons(0, 433)), shortest_green(&sample));
+    let papers = papers_width(433, 433, plan.best, g);
+    for row in page.table("| Sheet | Request | Reply | Offsets |") {
+        let words: Vec<&str> = row[1].split(' ').collect();
+        if words[0] == "platoons" && words[1] != words[2] {
+            let [out, back] = [words[1], words[2]].map(|word| number(word) as i64);
+            let (street, larger) = (street(&row[0]), out.max(back));
+            let plan = asked(&street, Ask::Platoons(out, back));
+            let given = if out > back { plan.outbound } else { plan.inbound };
+            let papers = papers_width(larger, out + back, plan.best, shortest_green(&street));
+            assert_eq!(given != papers, (out, back) == (0, 433), "{row:?}");
+            assert_eq!(given.min(2 * plan.best) == 2 * plan.best, out == 0, "{row:?}");
+        }
+    }
+    vec![
+        format!("The platoon of 433 halves is within 2B = {}. By the", 2 * plan.best),
+        format!("the inbound band would be {papers} halves, {} s;", seconds(papers)),
+        format!("ours is {}, {} s, as with 850.", plan.inbound, seconds(plan.inbound)),
+        "| `paper-sample.txt` | `platoons 0 433` |".to_string(),
+    ]
 }
 
 /// What the paper's own offsets, in whole halves, are worth on the sheet beside ours.

@@ -164,7 +164,7 @@ fn the_pages_tables_can_be_asked_as_they_stand() {
         let offsets = row[3].split_whitespace().map(|offset| format!("{offset}\n"));
         ask_row(&row[0], &row[1], &format!("{}\n{}", row[2], offsets.collect::<String>()));
     }
-    assert_eq!((lines.len(), paper.len()), (23, 18));
+    assert_eq!((lines.len(), paper.len()), (25, 19));
 }
 
 #[test]

@@ -8,7 +8,7 @@ use compare::bands::{clear, measure};
 use compare::cases::LARGEST_ROOM;
 use compare::equal::Plan;
 use compare::hold::{expect, hold, plans, plans_asked, widths};
-use compare::moved::{plan, shortest_green, Ask};
+use compare::moved::{papers_width, plan, platoon_rule, shortest_green, Ask};
 use compare::named::{named, Named};
 use compare::offsets::every;
 use compare::random::Random;
@@ -41,6 +41,9 @@ fn cases_moves_width_as_the_model_does() {
 /// The rules' fifth example, with a negative B.
 const ROW_5: &[u8] = b"1\n600\n2\n0 500\n15000 500\n1\n1000 1000\n";
 
+/// The school street, with B 100 and g 400.
+const SCHOOL: &[u8] = b"1\n600\n2\n0 400\n15000 400\n1\n1000 1000\n";
+
 #[test]
 fn the_rules_examples_come_out() {
     expect(&[
@@ -53,7 +56,33 @@ fn the_rules_examples_come_out() {
         (&["inbound 100", "platoons 50 100", "platoons 0 1"], STREET_A, "1 60 20 100 0\n0\n170"),
         (&["outbound 90", "platoons 30 10", "platoons 90 30"], STREET_A, "1 60 90 30 0\n170\n10"),
         (&["platoons 50 10", "platoons 1 0", "platoons 100000 0"], ROW_5, "1 -100 200 0 0\n900\n0"),
+        (&["platoons 50 0", "platoons 1 0", "platoons 200 0"], SCHOOL, "1 100 400 0 0\n900\n0"),
+        (&["platoons 0 50", "platoons 0 200", "platoons 1 200"], SCHOOL, "1 100 0 400 0\n0\n900"),
+        (&["outbound 199", "platoons 199 1", "platoons 199 2"], SCHOOL, "1 100 199 1 0\n1101\n0"),
     ]);
+}
+
+#[test]
+fn one_platoon_alone_gets_more_than_the_paper_has_where_2b_is_below_g() {
+    let (mut tried, mut wider) = (0, 0);
+    for (best, g) in (-3..=9).flat_map(|best| (best.max(1)..=24).map(move |g| (best, g))) {
+        for (out, back) in (0..900).map(|k| (k / 30, k % 30)).filter(|(out, back)| out != back) {
+            let (larger, sum) = (out.max(back), out + back);
+            let papers = papers_width(larger, sum, best, g);
+            let width = match platoon_rule(out, back, best, g) {
+                Ask::Outbound(width) if out > back => width,
+                Ask::Inbound(width) if out < back => width,
+                other => panic!("{out} and {back} ask for {other}"),
+            };
+            let alone = larger == sum && sum <= 2 * best && 2 * best < g;
+            let expected = if alone { (2 * best, g) } else { (width, width) };
+            assert_eq!((papers, width), expected, "{out} and {back} with B {best} and g {g}");
+            assert!(width < 2 * best || width == g, "{out} and {back} with B {best} and g {g}");
+            tried += 1;
+            wider += usize::from(alone);
+        }
+    }
+    assert!(wider > 1_000 && tried > 100 * wider, "{wider} of {tried}");
 }
 
 #[test]

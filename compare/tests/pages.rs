@@ -7,7 +7,8 @@ use compare::equal::{equal, Plan};
 use compare::moved::Ask;
 use compare::named::named;
 use compare::page::{coded, sheet, street, Page, Sample};
-use compare::paper::{asked, conversions, euclid, measured, parts, quarter, sample, LINKS, PARTS, SIGNALS};
+use compare::paper::{alone, asked, conversions, euclid, measured, parts, quarter, sample};
+use compare::paper::{LINKS, PARTS, SIGNALS};
 use compare::printed::{plan_prints, printed};
 use compare::run::Program;
 use compare::sheet::{read, write, LARGEST_SHEET};
@@ -70,7 +71,7 @@ fn examples() -> Vec<(Vec<u8>, String)> {
 #[test]
 fn the_examples_come_out() {
     let examples = examples();
-    assert_eq!(examples.len(), 23);
+    assert_eq!(examples.len(), 25);
     let bytes = input(&examples.iter().map(|(case, _)| case).collect::<Vec<_>>());
     let expected: String = examples.iter().map(|(_, reply)| format!("{reply}\n")).collect();
     assert_eq!(output(&bytes), expected, "the model");
@@ -214,7 +215,7 @@ fn the_papers_volumes_became_platoons() {
 #[test]
 fn the_programs_answer_as_the_papers_page_says() {
     let rows = Page::open("PAPER.md").table("| Sheet | Request | Reply | Offsets |");
-    assert_eq!(rows.len(), 18);
+    assert_eq!(rows.len(), 19);
     let case = |row: &Vec<String>| [row[1].as_bytes(), b"\n", &sheet(&row[0])].concat();
     let text = |row: &Vec<String>| {
         let offsets: String = row[3].split_whitespace().map(|offset| format!("{offset}\n")).collect();
@@ -298,8 +299,8 @@ fn the_papers_streets_are_told_as_they_are() {
     };
     let measured = measured(&own("600 200"), &own("850 0"));
     let told: Vec<String> =
-        [conversions(), sample(&page), measured, euclid(), quarter()].into_iter().flatten().collect();
-    assert!(told.len() >= 56, "{} sentences are held", told.len());
+        [conversions(), sample(&page), measured, euclid(), alone(&page), quarter()].concat();
+    assert!(told.len() >= 60, "{} sentences are held", told.len());
     told.iter().for_each(|sentence| page.says(sentence));
 }
 

@@ -1,9 +1,9 @@
-//! docs/RULES.md by hand: its tables, sentences and drawings of street A, worked out anew from the sheet.
+//! docs/RULES.md by hand: its tables, sentences and drawings of street A and of one platoon alone, worked out anew from the sheets.
 
 use compare::bands::{clear, measure};
 use compare::decimal::seconds;
 use compare::equal::{Pairs, Plan};
-use compare::moved::{plan, platoon_rule, shortest_green, Ask};
+use compare::moved::{papers_width, plan, platoon_rule, shortest_green, Ask};
 use compare::named::named;
 use compare::page::{sheet, street, Page};
 use compare::paper::asked;
@@ -326,6 +326,30 @@ fn the_other_direction_and_the_platoons_come_out() {
     ] {
         page.says(&sentence);
     }
+}
+
+#[test]
+fn a_platoon_that_is_alone_comes_out() {
+    let (page, name) = (Page::open("RULES.md"), "row-school-one-platoon.txt");
+    let (street, long, short) = (street(name), 50, 0);
+    let (h, b, g) = (street.halves(), asked(&street, Ask::Equal).best, shortest_green(&street));
+    let (r, sum, found) = (street.reds[0], long + short, 2 * b * long / (long + short));
+    assert_eq!((street.reds[1], found, platoon_rule(long, short, b, g)), (r, 2 * b, Ask::Outbound(g)));
+    let plan = asked(&street, Ask::Platoons(long, short));
+    assert_eq!(plan, asked(&street, Ask::Outbound(g)));
+    for sentence in [
+        format!("`{name}`: H = {h}, both reds are {r}, and B = {b}. So g = {h} - 2 * {r} = {g}."),
+        format!("For `platoons {long} {short}` L is {long}, outbound, and T = {long} + {short} = {sum} is"),
+        format!("is at most 2B = {}. The width found is {} * {long} / {sum} = {found},", 2 * b, 2 * b),
+        format!("which leaves inbound {} - {found} = {}. So outbound gets g,", 2 * b, 2 * b - found),
+        format!("the plan is that of `outbound {g}`: the reply is `{}`.", reply(&plan, "`, `")),
+    ] {
+        page.says(&sentence);
+    }
+    let examples = Page::open("EXAMPLES.md");
+    examples
+        .says(&format!("It would have all of 2B = {} and leave the other way 0, so it gets g = {g};", 2 * b));
+    examples.says(&format!("the paper prints it stops at {}.", papers_width(long, sum, b, g)));
 }
 
 #[test]

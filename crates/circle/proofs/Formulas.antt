@@ -4,11 +4,12 @@ pub use Rattle.circle.proofs.Formulas.Method.{Agree, B-agree, equalWidt
 pub use Rattle.circle.proofs.Formulas.Raised.{B-raised, B⁺, Fit, b⁺, b⁺-le, larger-raised, raised, reference-is, top}
 pub use Rattle.circle.proofs.Formulas.Reference.{phase-test, reference-first}
 pub use Rattle.circle.proofs.Formulas.Moving.{B⁺-is, asked, asked-green, equal-width, g-is, green, green-is, green-le, inbound-lowering, other-width, outbound-lowering, outside, within}
-pub use Rattle.circle.proofs.Formulas.Platoons.{platoon-le, platoons-crowd, platoons-fit, platoons-range, platoons-rest}
+pub use Rattle.circle.proofs.Formulas.Platoons.{found-fit, found-le, found-past, platoon-le, platoons-alone, platoons-none, platoons-range, platoons-some}
 pub use Rattle.circle.proofs.Formulas.AgreeMoved.{inRange-agree, inboundLowering-agree, lowered-agree, otherWidth-agree, outboundLowering-agree, platoonWidth-agree}
 pub mod Method
 pub mod Raised
 pub mod Reference
 pub mod Moving
 pub mod Platoons
+pub mod Printed
 pub mod AgreeMoved

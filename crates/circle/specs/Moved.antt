@@ -37,10 +37,10 @@ lowered s lowering j = man (halves s) (pos (offset s (reference s) j) -ℤ pos (
 unfoldable pub otherWidth : Timed → ℕ → ℕ
 otherWidth s w = orZero (B s +ℤ B s -ℤ pos w)
 
--- the width that the platoon rule gives the larger platoon L, with the sum T of both: where T is at most 2B, 2BL/T rounded down, at most g; where T is above 2B, the smaller of
--- L and g, and g where that would leave the other side 0
+-- the width that the platoon rule finds for the larger platoon L, with the sum T of both: 2BL/T rounded down where T is at most 2B, L where T is above 2B; at most g
+unfoldable pub foundWidth : Timed → ℕ → ℕ → ℕ
+foundWidth s L T = min (cond (leℤ (pos T) (B s +ℤ B s)) (orZero (B s +ℤ B s) * L / T) L) (orZero (g s))
+
+-- the width that the rule gives it: g where the width found leaves the lesser side 0, whatever T is (02, 2026-02), else the width found
 unfoldable pub platoonWidth : Timed → ℕ → ℕ → ℕ
-platoonWidth s L T =
-    cond (leℤ (pos T) (B s +ℤ B s))
-    (min (orZero (B s +ℤ B s) * L / T) (orZero (g s)))
-    (cond (eqb (otherWidth s (min L (orZero (g s)))) 0) (orZero (g s)) (min L (orZero (g s))))
+platoonWidth s L T = cond (eqb (otherWidth s (foundWidth s L T)) 0) (orZero (g s)) (foundWidth s L T)

@@ -1,5 +1,5 @@
 -- What is promised of a call's reply: of the numbers in every reply with code 0 that the call's contract allows, and of the offsets that the call leaves in the lent list. One notion says what a
--- plan keeps, and it is promised at rounded times with nothing lost and at exact times with m halves lost (demand 3); and the equal plan is the published method's own (demand 2).
+-- plan keeps, and it is promised at rounded times with nothing lost and at exact times with m halves lost (demand 3); the equal plan is the published method's own, and platoons leave a side 0 only beside g (demand 2).
 use Prim.Native.Nat.{ℕ, _+_, _-_, _*_, _≤_, _<_, min}
 use mathlib.Core.Path.{_≡_}
 use mathlib.Core.Bool.{true}
@@ -9,13 +9,14 @@ use lib.ListN.{length, getD}
 use Rattle.circle.specs.Man.{man}
 use Rattle.circle.specs.Method.{B, reference, offset, equalWidth, redEnd, redStart}
 use Rattle.circle.specs.Bands.{Way, clear, width}
+use Rattle.circle.specs.Moved.{g}
 use Rattle.street.specs.Lists.{Lists, signals}
 use Rattle.street.specs.Checks.{planChecks}
 use Rattle.street.specs.Streets.{timed, m}
 use Rattle.street.specs.declared.Verdict.the-variants.{Passed}
 use Rattle.widths.specs.Moved.{shiftOf}
 use Rattle.widths.specs.declared.Request.{Request}
-use Rattle.widths.specs.declared.Request.the-variants.{Equal}
+use Rattle.widths.specs.declared.Request.the-variants.{Equal, Platoons}
 use Rattle.widths.specs.declared.Shift.{Shift}
 use Rattle.widths.specs.declared.Shift.the-variants.{Unmoved, Outbound, Inbound}
 use Rattle.plans.specs.Answers.{planVerdict, planNumbers}
@@ -91,3 +92,10 @@ EqualIsMethod =
     × (p .starts ≡ redEnd s c (offset s c c))
     × (p .ends ≡ redStart s c (offset s c c))
     × ((j : ℕ) → j < signals l → getD exit j 0 ≡ offset s c j))
+
+-- 4. Platoons that differ leave the lesser side 0 only where the larger side has g (02, 2026-02)
+abbrev pub OneSided : Type 0
+OneSided =
+    OfReplies λ request l exit p. (P Q : ℕ) → request ≡ Platoons P Q →
+    (Q < P → p .inbound ≡ 0 → pos (p .outbound) ≡ g (timed l))
+    × (P < Q → p .outbound ≡ 0 → pos (p .inbound) ≡ g (timed l))

@@ -1,4 +1,4 @@
--- Document 01's rows 1 to 13, its street A and its examples of rounding as one table, with what it says of each row: the answer of the row's call and the list that it leaves, and where a row names an exact
+-- Document 01's rows 1 to 13, its street A and its examples of rounding, and the school street of 02, 2026-02, as one table, with what they say of each row: the answer of the row's call and the list that it leaves, and where a row names an exact
 -- best, that some offsets attain it and none exceed it. Each list starts as 7, 7, 7, so that an entry that is not written shows.
 use Prim.Native.Nat.{ℕ}
 use mathlib.Core.Path.{_≡_}
@@ -30,7 +30,7 @@ ExactBest l (best-is v) =
     (Fine l 1 × ((f : ℕ → ℕ) × (width (exactWays l 1 .outbound f) ≡ v) × (width (exactWays l 1 .inbound f) ≡ v)))
     × ((N : ℕ) → Fine l N → NoneBetter Unmoved (exactWays l N) v v 0)
 
--- a street and a request, with the answer and the offsets that document 01 gives for them
+-- a street and a request, with the answer and the offsets that the documents give for them
 pub record Row : Type 0 where
   pub street : Lists
   pub request : Request
@@ -116,7 +116,11 @@ width-rows =
     ∷ row (twoAlike 600 500 15000) (Inbound 0) (refusal Width 0) lent
     ∷ []
 
--- rows 11 to 13, platoons the other way round and equal ones, and the limit
+-- a street with a platoon one way only: both fit into 2B = 200, and g is 400 (02, 2026-02)
+unfoldable pub schoolStreet : Lists
+schoolStreet = twoAlike 600 400 15000
+
+-- rows 11 to 13, platoons the other way round and equal ones, the school street's both ways, and the limit
 unfoldable pub platoon-rows : List Row
 platoon-rows =
     row streetA (Platoons 30 10) (plan 1 (pos 60) 90 30 0 10 130) (170 ∷ 10 ∷ 7 ∷ [])
@@ -124,6 +128,8 @@ platoon-rows =
     ∷ row (twoAlike 600 500 15000) (Platoons 50 10) (plan 1 (negsuc 99) 200 0 0 200 400) (900 ∷ 0 ∷ 7 ∷ [])
     ∷ row streetA (Platoons 10 30) (plan 1 (pos 60) 30 90 0 40 160) (0 ∷ 180 ∷ 7 ∷ [])
     ∷ row streetA (Platoons 0 0) (plan 1 (pos 60) 60 60 0 40 160) (0 ∷ 10 ∷ 7 ∷ [])
+    ∷ row schoolStreet (Platoons 50 0) (plan 1 (pos 100) 400 0 0 100 500) (900 ∷ 0 ∷ 7 ∷ [])
+    ∷ row schoolStreet (Platoons 0 50) (plan 1 (pos 100) 0 400 0 400 800) (0 ∷ 900 ∷ 7 ∷ [])
     ∷ row streetA (Platoons 100001 100001) (refusal Platoon 1) lent
     ∷ row streetA (Platoons 100000 100001) (refusal Platoon 2) lent
     ∷ []

@@ -3,8 +3,9 @@ use mathlib.Core.Path.{_≡_, refl}
 use mathlib.Core.List.{[], _∷_, map}
 use Rattle.circle.specs.Over.{leastBelow, greatestBelow}
 use Rattle.circle.specs.Method.{u, pairWidth, b, B, equalWidth}
-use Rattle.circle.specs.Moved.{g, inRange, otherWidth, platoonWidth}
+use Rattle.circle.specs.Moved.{g, inRange, otherWidth, foundWidth, platoonWidth}
 use Rattle.circle.proofs.Examples.Method.{three}
+use Rattle.circle.proofs.Examples.Moved.{school}
 use Rattle.street.specs.Codes.{codeOf, placeOf}
 use Rattle.widths.specs.Moved.{platoonShift, shiftOf, outboundWidth, inboundWidth}
 use Rattle.widths.specs.Steps.{portionOf}
@@ -34,8 +35,13 @@ portion = refl
 
 -- platoons: equal ones move nothing; the longer has 2B · 4/7 = 5 5/7, rounded down; above 2B it has its length, at most g
 favoured : map (λ (r : Request). shiftOf r three) (request.Platoons 4 4 ∷ request.Platoons 4 3 ∷ request.Platoons 3 4 ∷ request.Platoons 5 7 ∷ request.Platoons 20 10 ∷ []) ≡ Unmoved ∷ Outbound 5 ∷ Inbound 5 ∷ Inbound 7 ∷ Outbound 8 ∷ []
-unfolding platoonShift platoonWidth otherWidth g B greatestBelow b leastBelow pairWidth u
+unfolding platoonShift platoonWidth foundWidth otherWidth g B greatestBelow b leastBelow pairWidth u
 favoured = refl
+
+-- on the school street a platoon that is alone has g, whichever way it goes, and one that is not leaves the other something
+one-sided : map (λ (r : Request). shiftOf r school) (request.Platoons 50 0 ∷ request.Platoons 0 50 ∷ request.Platoons 199 1 ∷ []) ≡ Outbound 400 ∷ Inbound 400 ∷ Outbound 199 ∷ []
+unfolding platoonShift platoonWidth foundWidth otherWidth g B greatestBelow b leastBelow pairWidth u
+one-sided = refl
 
 -- what each direction then has: B, or the width, or what it leaves of 2B
 out : map (λ (k : Shift). outboundWidth k three) (Unmoved ∷ Outbound 8 ∷ Inbound 7 ∷ []) ≡ 5 ∷ 8 ∷ 3 ∷ []

@@ -6,7 +6,7 @@ use street::Verdict;
 ghost use mathlib.Core.Path.{_≡_};
 ghost use Prim.Native.Nat.{_*_, _≤_, _<_, _^_};
 ghost use lib.IntN.{pos};
-ghost use Rattle.circle.specs.Moved.{g, otherWidth, platoonWidth};
+ghost use Rattle.circle.specs.Moved.{g, otherWidth, foundWidth, platoonWidth};
 ghost use Rattle.street.specs.Limits.{maxPlatoon};
 ghost use Rattle.street.specs.Steps.{maxHalves, timedStreet, Sound};
 ghost use Rattle.widths.specs.Moved.{platoonShift, shiftOf};
@@ -103,18 +103,35 @@ fn portion(whole: u32, part: u32, sum: u32) -> u32
     whole * part / sum
 }
 
-// The width that the platoon rule gives the longer platoon, from its length and the sum of both.
+// The width that the platoon rule finds for the longer platoon, from its length and the sum of both: its part of 2B where both fit
+// into that, else its length; at most g.
+fn found(s: Street, raised: u32, most: u32, longer: u32, sum: u32) -> u32
+    requires { ⌜ Raised (timedStreet s) raised × (pos most ≡ g (timedStreet s)) × (longer ≤ maxPlatoon) × (1 ≤ sum) × (sum ≤ 2 * maxPlatoon) ⌝ }
+    ensures { λ r. ⌜ r ≡ foundWidth (timedStreet s) longer sum ⌝ }
+{
+    let h = 2 * s.cycle;
+    if sum + 2 * h <= 2 * raised {
+        return circle::smaller(portion(2 * raised - 2 * h, longer, sum), most);
+    }
+    circle::smaller(longer, most)
+}
+
+// What a width for one direction leaves the other: 2B less it, or 0.
+fn other(s: Street, raised: u32, width: u32) -> u32
+    requires { ⌜ Raised (timedStreet s) raised × (width ≤ maxHalves) ⌝ }
+    ensures { λ r. ⌜ r ≡ otherWidth (timedStreet s) width ⌝ }
+{
+    circle::surplus(2 * raised, 4 * s.cycle + width)
+}
+
+// The width that the platoon rule gives the longer platoon: g where the width found leaves the other side 0, else the width found.
 fn share(s: Street, raised: u32, longer: u32, sum: u32) -> u32
     requires { ⌜ Raised (timedStreet s) raised × (longer ≤ maxPlatoon) × (1 ≤ sum) × (sum ≤ 2 * maxPlatoon) ⌝ }
     ensures { λ r. ⌜ r ≡ platoonWidth (timedStreet s) longer sum ⌝ }
 {
-    let h = 2 * s.cycle;
     let most = widest(s);
-    if sum + 2 * h <= 2 * raised {
-        return circle::smaller(portion(2 * raised - 2 * h, longer, sum), most);
-    }
-    let width = circle::smaller(longer, most);
-    if 2 * raised <= 2 * h + width {
+    let width = found(s, raised, most, longer, sum);
+    if other(s, raised, width) == 0 {
         return most;
     }
     width
@@ -145,14 +162,6 @@ pub fn settle(s: Street, raised: u32, request: Request) -> Shift
         Request::Inbound(width) => Shift::Inbound(width),
         Request::Platoons(outbound, inbound) => favoured(s, raised, outbound, inbound),
     }
-}
-
-// What a width for one direction leaves the other: 2B less it, or 0.
-fn other(s: Street, raised: u32, width: u32) -> u32
-    requires { ⌜ Raised (timedStreet s) raised × (width ≤ maxHalves) ⌝ }
-    ensures { λ r. ⌜ r ≡ otherWidth (timedStreet s) width ⌝ }
-{
-    circle::surplus(2 * raised, 4 * s.cycle + width)
 }
 
 // The two widths of a plan.

@@ -3,9 +3,11 @@ use mathlib.Core.Path.{_≡_, refl}
 use mathlib.Core.Bool.{true, false}
 use mathlib.Core.List.{[], _∷_, map}
 use lib.IntN.{pos}
+use lib.ListN.{getD}
 use Rattle.circle.specs.Over.{firstBelow, leastBelow, greatestBelow, listBelow}
-use Rattle.circle.specs.Method.{u, pairWidth, b, B, reference, phase, offset}
-use Rattle.circle.specs.Moved.{g, inRange, chosen, outboundLowering, inboundLowering, lowered, otherWidth, platoonWidth}
+use Rattle.circle.specs.Method.{Timed, u, pairWidth, b, B, reference, phase, offset}
+use Rattle.circle.specs.Moved.{g, inRange, chosen, outboundLowering, inboundLowering, lowered, otherWidth, foundWidth, platoonWidth}
+use Rattle.circle.proofs.Formulas.Printed.{Amended, printedWidth}
 use Rattle.circle.proofs.Examples.Method.{three, two}
 
 widest : g three ∷ g (two 2 2) ∷ [] ≡ pos 8 ∷ pos 2 ∷ []
@@ -45,5 +47,35 @@ others = refl
 
 -- platoons of 4 and 3 within 10: 10 · 4/7 = 5.7; of 9 and 1: 9, but at most 8. Above 10, of 7 and 5: 7; of 20 and 10: at most 8; and where 1 would leave the other side nothing, g
 platoons : platoonWidth three 4 7 ∷ platoonWidth three 9 10 ∷ platoonWidth three 7 12 ∷ platoonWidth three 20 30 ∷ platoonWidth (two 2 2) 1 1 ∷ [] ≡ 5 ∷ 8 ∷ 7 ∷ 8 ∷ 2 ∷ []
-unfolding platoonWidth otherWidth g B greatestBelow b leastBelow pairWidth u
+unfolding platoonWidth foundWidth otherWidth g B greatestBelow b leastBelow pairWidth u
 platoons = refl
+
+-- 02, 2026-02, on its school street: a cycle of 600 ticks, two reds of 400, 150 ticks each way, so that B is 100 and g is 400
+abbrev pub school : Timed
+school =
+    record {
+      cycle = 600;
+      signals = 2;
+      red = λ j. 400;
+      outbound = λ j. getD (0 ∷ 150 ∷ []) j 0;
+      inbound = λ j. getD (0 ∷ 150 ∷ []) j 0;
+    }
+
+-- 50 and 0 fit into 2B = 200 and have all of it; above 2B a platoon has its length, at most g
+found : foundWidth school 50 50 ∷ foundWidth school 199 201 ∷ foundWidth school 500 501 ∷ [] ≡ 200 ∷ 199 ∷ 400 ∷ []
+unfolding foundWidth g B greatestBelow b leastBelow pairWidth u
+found = refl
+
+-- 50 and 0 leave nothing of 2B, so g; 199 and 1 leave 1; above 2B 199 and 2 leave 1, and 200 and 1 nothing
+one-sided : platoonWidth school 50 50 ∷ platoonWidth school 199 200 ∷ platoonWidth school 199 201 ∷ platoonWidth school 200 201 ∷ [] ≡ 400 ∷ 199 ∷ 199 ∷ 400 ∷ []
+unfolding platoonWidth foundWidth otherWidth g B greatestBelow b leastBelow pairWidth u
+one-sided = refl
+
+-- the paper's rule has 200 for the first of them, where alone it differs
+printed : printedWidth school 50 50 ∷ printedWidth school 199 200 ∷ printedWidth school 199 201 ∷ printedWidth school 200 201 ∷ [] ≡ 200 ∷ 199 ∷ 199 ∷ 400 ∷ []
+unfolding platoonWidth foundWidth otherWidth g B greatestBelow b leastBelow pairWidth u
+printed = refl
+
+amended : Amended school 50 50
+unfolding g B greatestBelow b leastBelow pairWidth u
+amended = (refl, refl, refl)

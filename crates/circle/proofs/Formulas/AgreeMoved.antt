@@ -8,7 +8,7 @@ use lib.Dec.{eqb}
 use Rattle.circle.specs.Signed.{leℤ, maxℤ, orZero}
 use Rattle.circle.specs.Over.{leastBelow}
 use Rattle.circle.specs.Method.{Timed, halves, u, reference, phase, offset}
-use Rattle.circle.specs.Moved.{g, inRange, chosen, outboundLowering, inboundLowering, lowered, otherWidth, platoonWidth}
+use Rattle.circle.specs.Moved.{g, inRange, chosen, outboundLowering, inboundLowering, lowered, otherWidth, foundWidth, platoonWidth}
 use Rattle.circle.proofs.Numbers.Over.{least-ext}
 use Rattle.circle.proofs.Formulas.Method.{Agree, B-agree, reference-agree, reference-lt, offset-agree, u-agree, phase-agree}
 
@@ -29,16 +29,16 @@ module _ (s z : Timed) (agree : Agree s z) where
   unfolding otherWidth
   otherWidth-agree w = ap (λ x. orZero (x +ℤ x -ℤ pos w)) (B-agree s z agree)
 
+  foundWidth-agree : (L T : ℕ) → foundWidth s L T ≡ foundWidth z L T
+  unfolding foundWidth
+  foundWidth-agree L T =
+      ap₂ (λ x y. min (cond (leℤ (pos T) (x +ℤ x)) (orZero (x +ℤ x) * L / T) L) (orZero y)) (B-agree s z agree) g-agree
+
   pub platoonWidth-agree : (L T : ℕ) → platoonWidth s L T ≡ platoonWidth z L T
-  unfolding platoonWidth otherWidth
+  unfolding platoonWidth
   platoonWidth-agree L T =
-      ap₂
-      (λ x y.
-      cond (leℤ (pos T) (x +ℤ x))
-      (min (orZero (x +ℤ x) * L / T) (orZero y))
-      (cond (eqb (orZero (x +ℤ x -ℤ pos (min L (orZero y)))) 0) (orZero y) (min L (orZero y))))
-      (B-agree s z agree)
-      g-agree
+      ap (λ (t : ℕ). cond (eqb t 0) (orZero (g s)) (foundWidth s L T)) (otherWidth-agree (foundWidth s L T))
+      ∙ ap₂ (λ (f : ℕ) y. cond (eqb (otherWidth z f) 0) (orZero y) f) (foundWidth-agree L T) g-agree
 
   module _ (some : 0 < s .signals) where
     chosen-agree : (j : ℕ) → j < s .signals → chosen s j ≡ chosen z j

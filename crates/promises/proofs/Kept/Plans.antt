@@ -1,12 +1,10 @@
 -- What every plan keeps. Offsets that agree with a plan's at every signal have its named bands, as wide as it reports; so along lags near the rounded ones they keep all that a plan promises,
 -- with the plan's own numbers. A plan that moves nothing lowers every offset by 0, so that it is the equal plan; and what platoons ask for is in range. Assumes nothing.
 use Prim.Native.Nat.{ℕ, _+_, _-_, _*_, _≤_, _<_}
-use mathlib.Core.Path.{_≡_, sym, ap, ap₂, subst, _∙_}
-use mathlib.Core.Bool.{true, cond}
+use mathlib.Core.Path.{_≡_, refl, subst, _∙_}
+use mathlib.Core.Bool.{true}
 use native.Mathlib.Omega.{arith}
 use native.Mathlib.Decide.{decLt, ℕ-discrete}
-use lib.Dec.{ltb}
-use borrow.Author.Tests.{lt-ltb, le-ltb, eq-eqb, ne-eqb}
 use Rattle.circle.specs.Method.{Timed, reference, offset, equalWidth, redEnd, redStart}
 use Rattle.circle.specs.Moved.{inRange, otherWidth, platoonWidth}
 use Rattle.circle.proofs.Formulas.{Fit, asked, reference-lt, platoons-range}
@@ -17,6 +15,7 @@ use Rattle.street.specs.Checks.{planChecks}
 use Rattle.street.specs.Streets.{m, timed}
 use Rattle.street.specs.declared.Verdict.the-variants.{Passed}
 use Rattle.widths.specs.Moved.{platoonShift, outboundWidth, inboundWidth}
+use Rattle.widths.proofs.WidthLaws.{favours-neither, favours-outbound, favours-inbound}
 use Rattle.widths.specs.declared.Shift.{Shift}
 use Rattle.widths.specs.declared.Shift.the-variants.{Unmoved, Outbound, Inbound}
 use Rattle.offsets.specs.Moved.{movedOffset}
@@ -55,21 +54,16 @@ module _ (s : Timed) (ok : Fit s) (rise : Rising s) where
 
   -- what platoons ask for is in range, so code 9 never comes from them, and what is promised of a shift in range is promised of platoon plans
   pub platoons-in-range : (P Q : ℕ) → InRange s (platoonShift s P Q)
-  unfolding platoonShift
   platoons-in-range P Q = go (ℕ-discrete P Q) (decLt Q P)
     where
       go : Dec (P ≡ Q) → Dec (Q < P) → InRange s (platoonShift s P Q)
-      go (yes e) d = subst (InRange s) (sym (ap (λ t. cond t Unmoved (cond (ltb Q P) (Outbound (platoonWidth s P (P + Q))) (Inbound (platoonWidth s Q (P + Q))))) (eq-eqb P Q e))) tt
+      go (yes e) d = subst (InRange s) (favours-neither s P Q e) tt
       go (no n) (yes l) =
-          subst (InRange s)
-          (sym (ap₂ (λ t u. cond t Unmoved (cond u (Outbound (platoonWidth s P (P + Q))) (Inbound (platoonWidth s Q (P + Q))))) (ne-eqb P Q n) (lt-ltb Q P l)))
-          (platoons-range s ok P (P + Q) (omega arith) (omega arith))
+          subst (InRange s) (favours-outbound s P Q (platoonWidth s P (P + Q)) n l refl) (platoons-range s ok P (P + Q) (omega arith) (omega arith))
       go (no n) (no m) =
           let l : P ≤ Q = omega arith in
           let k : P < Q = omega arith in
-          subst (InRange s)
-          (sym (ap₂ (λ t u. cond t Unmoved (cond u (Outbound (platoonWidth s P (P + Q))) (Inbound (platoonWidth s Q (P + Q))))) (ne-eqb P Q n) (le-ltb Q P l)))
-          (platoons-range s ok Q (P + Q) (omega arith) (omega arith))
+          subst (InRange s) (favours-inbound s P Q (platoonWidth s Q (P + Q)) n l refl) (platoons-range s ok Q (P + Q) (omega arith) (omega arith))
 
 module _ (l : Lists) (room : ℕ) (passed : planChecks l room ≡ Passed) (N r : ℕ) {out back : ℕ → ℕ} (near : Near l N r out back) where
   -- no offsets do better than a shift in range

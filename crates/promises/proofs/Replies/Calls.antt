@@ -1,15 +1,17 @@
 -- The promises of a call's reply. Code 0 is given only where the checks found no fault, and then the contract makes the reply's numbers those of the request's plan and the first entries of
 -- the lent list its offsets: so what a plan keeps, the reply keeps. Nothing is lowered in the equal plan, so it is the method's own. Assumes nothing.
-use Prim.Native.Nat.{ℕ, _≤_, _<_}
+use Prim.Native.Nat.{ℕ, _+_, _≤_, _<_}
 use mathlib.Core.Path.{_≡_, refl, sym, ap, subst, _∙_}
 use mathlib.Core.Bool.{true}
 use mathlib.Core.List.{List}
 use native.Mathlib.Omega.{arith}
+use lib.IntN.{pos}
 use lib.ListN.{length, drop, getD, length-append}
 use Rattle.circle.specs.Over.{listBelow}
 use Rattle.circle.specs.Method.{Timed, reference, redEnd, redStart}
-use Rattle.circle.specs.Moved.{inRange}
+use Rattle.circle.specs.Moved.{inRange, platoonWidth}
 use Rattle.circle.proofs.Numbers.{getD-listBelow, length-listBelow}
+use Rattle.circle.proofs.Formulas.{platoons-alone}
 use Rattle.street.specs.Lists.{Lists, signals}
 use Rattle.street.specs.Checks.{orNext, planChecks, written}
 use Rattle.street.specs.Streets.{m, timed}
@@ -18,12 +20,13 @@ use Rattle.street.specs.declared.Verdict.{Verdict}
 use Rattle.street.specs.declared.Verdict.the-variants.{Passed, Refused}
 use Rattle.street.proofs.CheckLaws.{passes, code-some}
 use Rattle.street.proofs.Passed.{first-passed, rest-passed}
-use Rattle.widths.specs.Moved.{shiftOf}
+use Rattle.widths.specs.Moved.{platoonShift, shiftOf}
 use Rattle.widths.specs.Checks.{widthCheck, requestCheck}
 use Rattle.widths.specs.declared.Request.{Request}
 use Rattle.widths.specs.declared.Request.the-variants as request
 use Rattle.widths.specs.declared.Shift.{Shift}
-use Rattle.widths.specs.declared.Shift.the-variants.{Unmoved}
+use Rattle.widths.specs.declared.Shift.the-variants.{Unmoved, Outbound, Inbound}
+use Rattle.widths.proofs.WidthLaws.{favours-outbound, favours-inbound}
 use Rattle.offsets.specs.Moved.{movedOffset}
 use Rattle.offsets.proofs.MovedLaws.{unmoved-offset}
 use Rattle.plans.specs.Answers.{planVerdict, planNumbers, answered}
@@ -31,7 +34,7 @@ use Rattle.plans.specs.Requests.{movedPlan, requestChecks, Requested}
 use Rattle.plans.specs.declared.Plan.{Plan}
 use Rattle.plans.specs.declared.Answer.{Answer}
 use Rattle.promises.specs.Exact.{roundedWays, exactWays}
-use Rattle.promises.specs.Replies.{Kept, KeptRounded, KeptExact, EqualIsMethod}
+use Rattle.promises.specs.Replies.{Kept, KeptRounded, KeptExact, EqualIsMethod, OneSided}
 use Rattle.promises.proofs.Streets.Passing.{fit, rising}
 use Rattle.promises.proofs.Streets.Directions.{near-rounded, near-exact}
 use Rattle.promises.proofs.Kept.{InRange, Follows, plan-keeps, platoons-in-range}
@@ -138,3 +141,20 @@ kept-exact asked l entry exit r call code N fine =
     let f : ℕ → ℕ = λ j. getD exit j 0 in
     subst (λ p. Kept shift (exactWays l N) f p (p .rounded)) (told .numbers)
     (plan-keeps l (length entry) (told .passed) N (m l) (near-exact l (length entry) (told .passed) N fine) shift f (told .same) (told .range))
+
+pub one-sided : OneSided
+one-sided asked l entry exit r call code P Q is =
+    let s = timed l in
+    let told = reply-told asked l entry exit r call code in
+    let ok = fit l (length entry) (told .passed) in
+    let w = platoonWidth s P (P + Q) in
+    let w′ = platoonWidth s Q (P + Q) in
+    let of : (k : Shift) → k ≡ platoonShift s P Q → movedPlan k s (m l) ≡ planNumbers r .plan =
+    λ k e. ap (λ x. movedPlan x s (m l)) (e ∙ sym (ap (λ a. shiftOf a s) is)) ∙ told .numbers in (
+      λ more none.
+          let e = of (Outbound w) (favours-outbound s P Q w (λ same. omega (arith, same)) more refl) in
+          sym (ap (λ p. pos (p .outbound)) e) ∙ platoons-alone s ok P (P + Q) (ap (λ p. p .inbound) e ∙ none),
+      λ more none.
+          let e = of (Inbound w′) (favours-inbound s P Q w′ (λ same. omega (arith, same)) (omega arith) refl) in
+          sym (ap (λ p. pos (p .inbound)) e) ∙ platoons-alone s ok Q (P + Q) (ap (λ p. p .outbound) e ∙ none),
+    )

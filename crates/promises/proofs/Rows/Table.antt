@@ -1,15 +1,15 @@
--- One theorem over the table of document 01's rows: each row's reply and list by computation, and row 9's exact best by demand 3. Assumes nothing.
+-- One theorem over the table of the documents' rows: each row's reply and list by computation, and row 9's exact best by demand 3. Assumes nothing.
 use mathlib.Core.Path.{refl}
 use native.Mathlib.Omega.{arith}
 use mathlib.Core.List.{_++_}
 use Rattle.circle.specs.Over.{firstBelow, sumBelow, leastBelow, greatestBelow, listBelow}
 use Rattle.circle.specs.Bands.{allBelow, greatestUpTo, clear, stretch, width}
 use Rattle.circle.specs.Method.{u, pairWidth, b, B, reference, phase, offset, equalWidth, redEnd, redStart}
-use Rattle.circle.specs.Moved.{g, inRange, chosen, outboundLowering, inboundLowering, lowered, otherWidth, platoonWidth}
+use Rattle.circle.specs.Moved.{g, inRange, chosen, outboundLowering, inboundLowering, lowered, otherWidth, foundWidth, platoonWidth}
 use Rattle.street.specs.Checks.{countCheck, roomCheck, cycleCheck, redCheck, distanceCheck, speedCheck, planChecks}
 use Rattle.widths.specs.Moved.{platoonShift}
 use Rattle.widths.specs.Checks.{platoonCheck, widthCheck}
-use Rattle.promises.specs.Rows.{best-is, ExactBest, lent, Holds, All, twoSignals, twoAlike, streetA, plan, row, best-row, refusal, equal-rows, rounding-rows, width-rows, platoon-rows, rows}
+use Rattle.promises.specs.Rows.{best-is, ExactBest, lent, Holds, All, twoSignals, twoAlike, streetA, schoolStreet, plan, row, best-row, refusal, equal-rows, rounding-rows, width-rows, platoon-rows, rows}
 use Rattle.promises.proofs.Streets.Directions.{near-exact}
 use Rattle.promises.proofs.Kept.Bounds.{none-wider}
 use Rattle.promises.proofs.Witnesses.{fine-link}
@@ -23,11 +23,11 @@ nine = (
 )
 
 pub rows-hold : All rows
-unfolding All Holds ExactBest best-row row plan refusal rows equal-rows rounding-rows width-rows platoon-rows twoSignals twoAlike streetA lent
+unfolding All Holds ExactBest best-row row plan refusal rows equal-rows rounding-rows width-rows platoon-rows twoSignals twoAlike streetA schoolStreet lent
 rows-hold =
     unfold countCheck roomCheck cycleCheck redCheck distanceCheck speedCheck planChecks platoonCheck widthCheck in
-    unfold firstBelow sumBelow leastBelow greatestBelow listBelow u pairWidth b B reference phase offset equalWidth redEnd redStart g inRange chosen outboundLowering inboundLowering lowered otherWidth platoonWidth platoonShift in
-    let platoons : All platoon-rows = ((refl, refl, tt), ((refl, refl, tt), ((refl, refl, tt), ((refl, refl, tt), ((refl, refl, tt), ((refl, refl, tt), ((refl, refl, tt), tt))))))) in
+    unfold firstBelow sumBelow leastBelow greatestBelow listBelow u pairWidth b B reference phase offset equalWidth redEnd redStart g inRange chosen outboundLowering inboundLowering lowered otherWidth foundWidth platoonWidth platoonShift in
+    let platoons : All platoon-rows = ((refl, refl, tt), ((refl, refl, tt), ((refl, refl, tt), ((refl, refl, tt), ((refl, refl, tt), ((refl, refl, tt), ((refl, refl, tt), ((refl, refl, tt), ((refl, refl, tt), tt))))))))) in
     let widths : All (width-rows ++ platoon-rows) = ((refl, refl, tt), ((refl, refl, tt), ((refl, refl, tt), ((refl, refl, tt), ((refl, refl, tt), ((refl, refl, tt), ((refl, refl, tt), ((refl, refl, tt), platoons)))))))) in
     let roundings : All (rounding-rows ++ (width-rows ++ platoon-rows)) = ((refl, refl, tt), ((refl, refl, tt), widths)) in
     ((refl, refl, tt), ((refl, refl, tt), ((refl, refl, tt), ((refl, refl, tt), ((refl, refl, tt), ((refl, refl, nine), ((refl, refl, tt), roundings)))))))
