@@ -1,5 +1,5 @@
--- Document 01's rows 1 to 13, its street A and its examples of rounding, and the school street of 02, 2026-02, as one table, with what they say of each row: the answer of the row's call and the list that it leaves, and where a row names an exact
--- best, that some offsets attain it and none exceed it. Each list starts as 7, 7, 7, so that an entry that is not written shows.
+-- Document 01's rows 1 to 13, its street A and its examples of rounding, and a school street for 02, 2026-02, as one table, with what is said of each row: the answer of the row's call and the
+-- list that it leaves, and where a row names an exact best, that some offsets attain it and none exceed it. Each list starts as 7, 7, 7, so that an entry that is not written shows.
 use Prim.Native.Nat.{ℕ}
 use mathlib.Core.Path.{_≡_}
 use mathlib.Core.List.{List, [], _∷_, _++_}
@@ -30,7 +30,7 @@ ExactBest l (best-is v) =
     (Fine l 1 × ((f : ℕ → ℕ) × (width (exactWays l 1 .outbound f) ≡ v) × (width (exactWays l 1 .inbound f) ≡ v)))
     × ((N : ℕ) → Fine l N → NoneBetter Unmoved (exactWays l N) v v 0)
 
--- a street and a request, with the answer and the offsets that the documents give for them
+-- a street and a request, with the answer and the offsets that they are to get
 pub record Row : Type 0 where
   pub street : Lists
   pub request : Request

@@ -73,7 +73,7 @@ one-sided = refl
 
 -- the paper's rule has 200 for the first of them, where alone it differs
 printed : printedWidth school 50 50 ∷ printedWidth school 199 200 ∷ printedWidth school 199 201 ∷ printedWidth school 200 201 ∷ [] ≡ 200 ∷ 199 ∷ 199 ∷ 400 ∷ []
-unfolding platoonWidth foundWidth otherWidth g B greatestBelow b leastBelow pairWidth u
+unfolding printedWidth otherWidth g B greatestBelow b leastBelow pairWidth u
 printed = refl
 
 amended : Amended school 50 50

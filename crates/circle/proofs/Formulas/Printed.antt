@@ -1,12 +1,12 @@
 -- The platoon rule beside the one that the paper prints (02, 2026-02): where they differ, and both widths there. Assumes nothing.
-use Prim.Native.Nat.{ℕ, _+_, _-_, _*_, _/_, _≤_}
+use Prim.Native.Nat.{ℕ, _+_, _-_, _*_, _/_, _≤_, min}
 use mathlib.Core.Path.{_≡_, sym, ap, _∙_}
 use mathlib.Core.Bool.{Bool, true, false, cond}
 use native.Mathlib.Omega.{arith}
 use native.Mathlib.Decide.{decLe, ℕ-discrete}
 use native.Mathlib.Nat.{le-of-mul-le-mul-left, mul-div-cancel, le-div-iff-mul-le}
 use lib.IntN.{pos, _+ℤ_}
-use lib.Dec.{leb}
+use lib.Dec.{leb, eqb}
 use borrow.Author.Tests.{le-leb, lt-leb, leb-true, leb-false}
 use Rattle.circle.specs.Signed.{leℤ, orZero}
 use Rattle.circle.specs.Method.{Timed, halves, B}
@@ -16,9 +16,18 @@ use Rattle.circle.proofs.Formulas.Raised.{Fit, B⁺}
 use Rattle.circle.proofs.Formulas.Moving.{green, g-is, double, other-width}
 use Rattle.circle.proofs.Formulas.Platoons.{platoons-none, platoons-some, found-le, found-fit, twice-test, g-test, g-own}
 
--- the paper's rule gives g only where T is above 2B: else it stops at the width found
-abbrev pub printedWidth : Timed → ℕ → ℕ → ℕ
-printedWidth s L T = cond (leℤ (pos T) (B s +ℤ B s)) (foundWidth s L T) (platoonWidth s L T)
+-- the rule as the paper prints it: where T is at most 2B, 2BL/T rounded down, at most g; where T is above 2B, the smaller of L and g, and g where that leaves the lesser side 0
+unfoldable pub printedWidth : Timed → ℕ → ℕ → ℕ
+printedWidth s L T =
+    cond (leℤ (pos T) (B s +ℤ B s))
+    (min (orZero (B s +ℤ B s) * L / T) (orZero (g s)))
+    (cond (eqb (otherWidth s (min L (orZero (g s)))) 0) (orZero (g s)) (min L (orZero (g s))))
+
+-- so it stops at the width found where T is at most 2B
+printed-is : (s : Timed) (L T : ℕ) (t : Bool) → leℤ (pos T) (B s +ℤ B s) ≡ t → printedWidth s L T ≡ cond t (foundWidth s L T) (platoonWidth s L T)
+unfolding printedWidth foundWidth platoonWidth
+printed-is s L T true e = simp e
+printed-is s L T false e = simp e
 
 -- the lesser platoon is 0, the larger at most 2B, and 2B below g
 abbrev pub Amended : Timed → ℕ → ℕ → Type 0
@@ -34,7 +43,7 @@ module _ (s : Timed) (fit : Fit s) (L T : ℕ) (some : 1 ≤ T) where
       let k = leb-false (green s + H) (2 * B⁺ s) (sym (g-test s fit) ∙ below) in
       let all : D * L / T ≡ D = ap (λ (z : ℕ). D * z / T) same ∙ mul-div-cancel D some in
       let is : foundWidth s L T ≡ D = omega (arith, found-fit s fit L T l) in (
-        ap pos (ap (λ p. cond p (foundWidth s L T) (platoonWidth s L T)) fits ∙ is) ∙ sym (sub-pos (2 * B⁺ s) H (omega arith)) ∙ sym (double s fit),
+        ap pos (printed-is s L T true fits ∙ is) ∙ sym (sub-pos (2 * B⁺ s) H (omega arith)) ∙ sym (double s fit),
         ap pos (platoons-none s L T (omega (arith, other-width s fit (foundWidth s L T)))) ∙ g-own s fit,
       )
 
@@ -44,7 +53,7 @@ module _ (s : Timed) (fit : Fit s) (L T : ℕ) (some : 1 ≤ T) where
       go (decLe (T + 2 * halves s) (2 * B⁺ s)) (ℕ-discrete (otherWidth s (foundWidth s L T)) 0) (decLe (green s + 2 * halves s) (2 * B⁺ s))
     where
       printed : (t : Bool) → leb (T + 2 * halves s) (2 * B⁺ s) ≡ t → cond t (foundWidth s L T) (platoonWidth s L T) ≡ printedWidth s L T
-      printed t e = sym (ap (λ p. cond p (foundWidth s L T) (platoonWidth s L T)) (twice-test s fit T ∙ e))
+      printed t e = sym (printed-is s L T t (twice-test s fit T ∙ e))
 
       go : Dec (T + 2 * halves s ≤ 2 * B⁺ s) → Dec (otherWidth s (foundWidth s L T) ≡ 0) → Dec (green s + 2 * halves s ≤ 2 * B⁺ s) → Amended s L T
       go (no more) d d′ = absurd (differ (printed false (lt-leb (T + 2 * halves s) (2 * B⁺ s) (omega arith))))

@@ -1,4 +1,4 @@
--- One theorem over the table of the documents' rows: each row's reply and list by computation, and row 9's exact best by demand 3. Assumes nothing.
+-- One theorem over the table of rows: each row's reply and list by computation, and row 9's exact best by demand 3. Assumes nothing.
 use mathlib.Core.Path.{refl}
 use native.Mathlib.Omega.{arith}
 use mathlib.Core.List.{_++_}
