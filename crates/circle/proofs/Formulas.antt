@@ -11,5 +11,5 @@ pub mod Raised
 pub mod Reference
 pub mod Moving
 pub mod Platoons
-pub mod Printed
+pub mod Paper
 pub mod AgreeMoved

@@ -7,7 +7,7 @@ use lib.ListN.{getD}
 use Rattle.circle.specs.Over.{firstBelow, leastBelow, greatestBelow, listBelow}
 use Rattle.circle.specs.Method.{Timed, u, pairWidth, b, B, reference, phase, offset}
 use Rattle.circle.specs.Moved.{g, inRange, chosen, outboundLowering, inboundLowering, lowered, otherWidth, foundWidth, platoonWidth}
-use Rattle.circle.proofs.Formulas.Printed.{Amended, printedWidth}
+use Rattle.circle.proofs.Formulas.Paper.{Amended, paperWidth}
 use Rattle.circle.proofs.Examples.Method.{three, two}
 
 widest : g three ∷ g (two 2 2) ∷ [] ≡ pos 8 ∷ pos 2 ∷ []
@@ -72,9 +72,9 @@ unfolding platoonWidth foundWidth otherWidth g B greatestBelow b leastBelow pair
 one-sided = refl
 
 -- the paper's rule has 200 for the first of them, where alone it differs
-printed : printedWidth school 50 50 ∷ printedWidth school 199 200 ∷ printedWidth school 199 201 ∷ printedWidth school 200 201 ∷ [] ≡ 200 ∷ 199 ∷ 199 ∷ 400 ∷ []
-unfolding printedWidth otherWidth g B greatestBelow b leastBelow pairWidth u
-printed = refl
+paper : paperWidth school 50 50 ∷ paperWidth school 199 200 ∷ paperWidth school 199 201 ∷ paperWidth school 200 201 ∷ [] ≡ 200 ∷ 199 ∷ 199 ∷ 400 ∷ []
+unfolding paperWidth otherWidth g B greatestBelow b leastBelow pairWidth u
+paper = refl
 
 amended : Amended school 50 50
 unfolding g B greatestBelow b leastBelow pairWidth u
