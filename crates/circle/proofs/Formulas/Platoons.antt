@@ -2,7 +2,7 @@
 -- at least B, as it is at least half of their sum, and what the rule finds is at most g. Where they do not, the larger platoon is at least B, being at least half of a
 -- sum above 2B. And whatever it gives, the lesser side is left 0 only beside g; so it gives g wherever B is 0 or less. Assumes nothing.
 use Prim.Native.Nat.{ℕ, _+_, _-_, _*_, _/_, _≤_, _<_, min}
-use mathlib.Core.Path.{_≡_, sym, ap, ap₂, _∙_}
+use mathlib.Core.Path.{_≡_, refl, sym, ap, ap₂, subst, _∙_}
 use mathlib.Core.Bool.{true, cond}
 use native.Mathlib.Omega.{arith}
 use native.Mathlib.Decide.{decLe, ℕ-discrete}
@@ -34,25 +34,25 @@ module _ (s : Timed) (L T : ℕ) where
   unfolding platoonWidth
   platoons-some some = ap (λ t. cond t (orZero (g s)) (foundWidth s L T)) (ne-eqb (otherWidth s (foundWidth s L T)) 0 some)
 
+  -- so what holds of g there, and of the width found else, holds of what the rule gives
+  given : (C : ℕ → Type 0) → (otherWidth s (foundWidth s L T) ≡ 0 → C (orZero (g s))) → ((otherWidth s (foundWidth s L T) ≡ 0 → ⊥) → C (foundWidth s L T)) → C (platoonWidth s L T)
+  given C of-g of-found = go (ℕ-discrete (otherWidth s (foundWidth s L T)) 0)
+    where
+      go : Dec (otherWidth s (foundWidth s L T) ≡ 0) → C (platoonWidth s L T)
+      go (yes none) = subst C (sym (platoons-none none)) (of-g none)
+      go (no some) = subst C (sym (platoons-some some)) (of-found some)
+
   -- no width of the rule is above g
   pub found-le : foundWidth s L T ≤ orZero (g s)
   unfolding foundWidth
   found-le = omega arith
 
   pub platoon-le : platoonWidth s L T ≤ orZero (g s)
-  platoon-le = go (ℕ-discrete (otherWidth s (foundWidth s L T)) 0)
-    where
-      go : Dec (otherWidth s (foundWidth s L T) ≡ 0) → platoonWidth s L T ≤ orZero (g s)
-      go (yes none) = omega (arith, platoons-none none)
-      go (no some) = omega (arith, platoons-some some, found-le)
+  platoon-le = given (λ w. w ≤ orZero (g s)) (λ none. omega arith) (λ some. found-le)
 
   -- the lesser side is left 0 only beside g
   lesser-none : otherWidth s (platoonWidth s L T) ≡ 0 → platoonWidth s L T ≡ orZero (g s)
-  lesser-none left = go (ℕ-discrete (otherWidth s (foundWidth s L T)) 0)
-    where
-      go : Dec (otherWidth s (foundWidth s L T) ≡ 0) → platoonWidth s L T ≡ orZero (g s)
-      go (yes none) = platoons-none none
-      go (no some) = absurd (some (sym (ap (otherWidth s) (platoons-some some)) ∙ left))
+  lesser-none = given (λ w. otherWidth s w ≡ 0 → w ≡ orZero (g s)) (λ none left. refl) (λ some left. absurd (some left))
 
 module _ (s : Timed) (fit : Fit s) where
   -- a number, and g, against 2B
@@ -86,19 +86,18 @@ module _ (s : Timed) (fit : Fit s) where
   -- the rule's width, for a larger platoon L of a sum T of two that differ
   pub platoons-range : (L T : ℕ) → L ≤ T → T < 2 * L → inRange s (platoonWidth s L T) ≡ true
   platoons-range L T part larger =
-      go (ℕ-discrete (otherWidth s (foundWidth s L T)) 0) (decLe (T + 2 * halves s) (2 * B⁺ s))
+      given s L T (λ w. inRange s w ≡ true)
+      (λ none. ap (λ x. inRange s (orZero x)) (g-is s fit) ∙ within s fit (green s) (green-some s fit) (B-green s fit) (omega arith))
+      (λ some. found (decLe (T + 2 * halves s) (2 * B⁺ s)))
     where
-      go : Dec (otherWidth s (foundWidth s L T) ≡ 0) → Dec (T + 2 * halves s ≤ 2 * B⁺ s) → inRange s (platoonWidth s L T) ≡ true
-      go (yes none) d =
-          ap (inRange s) (platoons-none s L T none ∙ ap orZero (g-is s fit))
-          ∙ within s fit (green s) (green-some s fit) (B-green s fit) (omega arith)
-      go (no some) (yes fits) =
+      found : Dec (T + 2 * halves s ≤ 2 * B⁺ s) → inRange s (foundWidth s L T) ≡ true
+      found (yes fits) =
           let D = 2 * B⁺ s - 2 * halves s in
           let l = share (B⁺ s - halves s) D L T (omega arith) (omega arith) (omega arith) in
-          ap (inRange s) (platoons-some s L T some ∙ found-fit L T fits)
+          ap (inRange s) (found-fit L T fits)
           ∙ within s fit (min (D * L / T) (green s)) (omega (arith, green-some s fit)) (omega (arith, B-green s fit)) (omega arith)
-      go (no some) (no more) =
-          ap (inRange s) (platoons-some s L T some ∙ found-past L T (omega arith))
+      found (no more) =
+          ap (inRange s) (found-past L T (omega arith))
           ∙ within s fit (min L (green s)) (omega (arith, green-some s fit)) (omega (arith, B-green s fit)) (omega arith)
 
   pub g-own : pos (orZero (g s)) ≡ g s
