@@ -3,15 +3,17 @@
  * with a pattern, prints the reply and the whole list, and measures the offsets of a plan.
  *
  *     client SHEET [room N | outbound WIDTH | inbound WIDTH | platoons P Q]
+ *     client SHEET volumes V W HEADWAY
  *     client SHEET write [N]
  *     client SHEET print|numbers|unequal
  *     client empty
  *
- * Without a word after the sheet, or with `room`, it is the equal plan. `write` writes the sheet again into a lent list
- * of N bytes, two more than any sheet needs where N is not said, prints the reply and all bytes of the list, and tells
- * whether what was written reads back as the same numbers. `print` shows the printed plan and `numbers` what the reader
- * read. `unequal` hands over lists whose lengths do not fit, and `empty` hands null pointers and counts of 0 to every
- * call. Exit status: 0, or 2 where the words or the file are no good; a refusal is an answer.
+ * Without a word after the sheet, or with `room`, it is the equal plan. `volumes` prints the largest volumes after the
+ * reply. `write` writes the sheet again into a lent list of N bytes, two more than any sheet needs where N is not said,
+ * prints the reply and all bytes of the list, and tells whether what was written reads back as the same numbers.
+ * `print` shows the printed plan and `numbers` what the reader read. `unequal` hands over lists whose lengths do not
+ * fit, and `empty` hands null pointers and counts of 0 to every call. Exit status: 0, or 2 where the words or the file
+ * are no good; a refusal is an answer.
  */
 #include "corbatan.h"
 
@@ -30,6 +32,7 @@
 
 /* The structs are laid out as the library has them: a negative size here stops the compiler. */
 typedef char plan_size[sizeof(CorbatanPlan) == 36 ? 1 : -1];
+typedef char volumes_size[sizeof(CorbatanVolumes) == 44 && offsetof(CorbatanVolumes, outbound_volume) == 36 ? 1 : -1];
 typedef char measure_size[sizeof(CorbatanMeasure) == 24 ? 1 : -1];
 typedef char sheet_size[sizeof(CorbatanSheet) == 536 && offsetof(CorbatanSheet, reds) == 20 ? 1 : -1];
 typedef char writing_size[sizeof(CorbatanWriting) == 16 && offsetof(CorbatanWriting, count) == 8 ? 1 : -1];
@@ -71,6 +74,12 @@ static void show_plan(CorbatanPlan p)
     printf(" reference %" PRIu32 " b %" PRId32, p.reference, p.b);
     printf(" outbound %" PRIu32 " inbound %" PRIu32 " rounded %" PRIu32, p.outbound, p.inbound, p.rounded);
     printf(" starts %" PRIu32 " ends %" PRIu32 "\n", p.starts, p.ends);
+}
+
+static void show_volumes(CorbatanVolumes v)
+{
+    show_plan(v.plan);
+    printf("volumes outbound %" PRIu32 " inbound %" PRIu32 "\n", v.outbound_volume, v.inbound_volume);
 }
 
 static void show_measure(CorbatanMeasure m)
@@ -115,13 +124,24 @@ static void show_text(CorbatanText t)
     (s).cycle, (s).reds, (n), (s).distances, (n), list((s).outbound, (links)), (links), list((s).inbound, (links)), \
         (links)
 
-/* Shows a plan and the list, and measures the offsets that stand in it. */
-static void show_planned(const CorbatanSheet *s, CorbatanPlan p, size_t room)
+/* Shows the list after a plan, and measures the offsets that stand in it. */
+static void show_lent(const CorbatanSheet *s, CorbatanPlan p, size_t room)
 {
-    show_plan(p);
     show_list("list", lent, room);
     if (p.code == CORBATAN_OK)
         show_measure(corbatan_measure(STREET(*s, s->signals, s->signals - 1), lent, s->signals));
+}
+
+static void show_planned(const CorbatanSheet *s, CorbatanPlan p, size_t room)
+{
+    show_plan(p);
+    show_lent(s, p, room);
+}
+
+static void show_planned_volumes(const CorbatanSheet *s, CorbatanVolumes v, size_t room)
+{
+    show_volumes(v);
+    show_lent(s, v.plan, room);
 }
 
 static int same_numbers(const CorbatanSheet *a, const CorbatanSheet *b)
@@ -169,6 +189,7 @@ static void empty(void)
     show_plan(corbatan_outbound(600, NULL, 0, NULL, 0, NULL, 0, NULL, 0, 80, NULL, 0));
     show_plan(corbatan_inbound(600, NULL, 0, NULL, 0, NULL, 0, NULL, 0, 80, NULL, 0));
     show_plan(corbatan_platoons(600, NULL, 0, NULL, 0, NULL, 0, NULL, 0, 30, 10, NULL, 0));
+    show_volumes(corbatan_volumes(600, NULL, 0, NULL, 0, NULL, 0, NULL, 0, 800, 300, 20, NULL, 0));
     show_measure(corbatan_measure(600, NULL, 0, NULL, 0, NULL, 0, NULL, 0, NULL, 0));
     show_writing(corbatan_write(600, NULL, 0, NULL, 0, NULL, 0, NULL, 0, NULL, 0), 0);
 }
@@ -176,6 +197,7 @@ static void empty(void)
 static int usage(void)
 {
     fprintf(stderr, "usage: client SHEET [room N | outbound WIDTH | inbound WIDTH | platoons P Q]\n");
+    fprintf(stderr, "       client SHEET volumes V W HEADWAY\n");
     fprintf(stderr, "       client SHEET write [N]\n");
     fprintf(stderr, "       client SHEET print|numbers|unequal\n");
     fprintf(stderr, "       client empty\n");
@@ -188,6 +210,7 @@ static int asked(const CorbatanSheet *s, int words, char **word)
     size_t n = s->signals, links = n - 1, room = n + 1;
     uint32_t first = words > 1 ? (uint32_t)strtoul(word[1], NULL, 10) : 0;
     uint32_t second = words > 2 ? (uint32_t)strtoul(word[2], NULL, 10) : 0;
+    uint32_t third = words > 3 ? (uint32_t)strtoul(word[3], NULL, 10) : 0;
     if (words == 2 && strcmp(word[0], "room") == 0)
         room = first;
     if (room > MAX_ROOM)
@@ -201,6 +224,8 @@ static int asked(const CorbatanSheet *s, int words, char **word)
         show_planned(s, corbatan_inbound(STREET(*s, n, links), first, offsets, room), room);
     else if (words == 3 && strcmp(word[0], "platoons") == 0)
         show_planned(s, corbatan_platoons(STREET(*s, n, links), first, second, offsets, room), room);
+    else if (words == 4 && strcmp(word[0], "volumes") == 0)
+        show_planned_volumes(s, corbatan_volumes(STREET(*s, n, links), first, second, third, offsets, room), room);
     else if (words == 1 && strcmp(word[0], "write") == 0)
         write_again(s, MAX_BYTES);
     else if (words == 2 && strcmp(word[0], "write") == 0 && first <= MAX_BYTES)

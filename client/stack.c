@@ -22,7 +22,7 @@
 static volatile uint64_t region[WORDS];
 
 /* What the next call gets. The counts stand apart, so that they can be wrong. */
-static uint32_t cycle, reds[N], distances[N], outbound[N], inbound[N], offsets[N], first, second;
+static uint32_t cycle, reds[N], distances[N], outbound[N], inbound[N], offsets[N], first, second, headway;
 static uint32_t lent[N];
 static uint8_t lent_bytes[CORBATAN_MAX_SHEET];
 static size_t signals, links, room, bytes_room;
@@ -30,6 +30,7 @@ static uint8_t sheet[4096];
 static size_t sheet_count;
 
 static CorbatanPlan plan;
+static CorbatanVolumes volumes;
 static CorbatanMeasure measure;
 static CorbatanSheet numbers;
 static CorbatanWriting writing;
@@ -44,6 +45,7 @@ static void call_equal(void) { plan = corbatan_equal(STREET, lent, room); }
 static void call_outbound(void) { plan = corbatan_outbound(STREET, first, lent, room); }
 static void call_inbound(void) { plan = corbatan_inbound(STREET, first, lent, room); }
 static void call_platoons(void) { plan = corbatan_platoons(STREET, first, second, lent, room); }
+static void call_volumes(void) { volumes = corbatan_volumes(STREET, first, second, headway, lent, room); }
 static void call_measure(void) { measure = corbatan_measure(STREET, offsets, signals); }
 
 static struct {
@@ -58,6 +60,7 @@ static struct {
     {"corbatan_outbound", call_outbound, 0},
     {"corbatan_inbound", call_inbound, 0},
     {"corbatan_platoons", call_platoons, 0},
+    {"corbatan_volumes", call_volumes, 0},
     {"corbatan_measure", call_measure, 0},
 };
 #define CALLS (sizeof calls / sizeof calls[0])
@@ -116,6 +119,7 @@ static void set_street(size_t n, int greatest)
     links = n - 1;
     bytes_room = sizeof lent_bytes;
     cycle = greatest ? 6000 : 10 + below(5991);
+    headway = greatest ? 100 : 20;
     for (size_t i = 0; i < n; i++) {
         reds[i] = greatest ? 5999 : 1 + below(cycle - 1);
         distances[i] = greatest ? (uint32_t)(20000001 - n + i) : (uint32_t)i * 600000 + below(600000);
@@ -160,11 +164,19 @@ static void measure_with(uint32_t *number, uint32_t changed)
     *number = kept;
 }
 
-/* Measures refusals of the street that is set: of numbers, each at its first and at its last place, and of counts. */
+/* Measures refusals of the street that is set: of numbers, each at its first and at its last place, and of counts. A
+   number stands for a platoon and for a volume. Here 10,000 vehicles an hour have too long a platoon and 10,001 are too
+   many, and a platoon of 100,001 halves is too long. */
 static void measure_refusals(void)
 {
-    measure_with(&first, 100001);
-    measure_with(&second, 100001);
+    static const uint32_t too_much[] = {10000, 10001, 100001};
+    first = second = 0;
+    for (size_t k = 0; k < 3; k++) {
+        measure_with(&first, too_much[k]);
+        measure_with(&second, too_much[k]);
+    }
+    measure_with(&headway, 0);
+    measure_with(&headway, 101);
     measure_with(&cycle, 6001);
     for (size_t i = 0; i < signals; i += signals - 1) {
         measure_with(&reds[i], cycle);

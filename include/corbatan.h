@@ -8,7 +8,8 @@
  *
  * Units. A tick is a tenth of a second, a half is half a tick. Cycles and reds
  * are in ticks, distances in mm, speeds in mm/s; offsets, widths, instants and
- * platoons are in halves. H is the cycle in halves, twice its ticks.
+ * platoons are in halves. Volumes are in vehicles an hour, a headway is in
+ * ticks. H is the cycle in halves, twice its ticks.
  *
  * Lists. A list is a pointer and a count of entries, not of bytes.
  *
@@ -50,8 +51,8 @@
 
 /* The version of this interface: the major number changes when a program that uses it has to change. */
 #define CORBATAN_VERSION_MAJOR 1
-#define CORBATAN_VERSION_MINOR 3
-#define CORBATAN_VERSION "1.3"
+#define CORBATAN_VERSION_MINOR 4
+#define CORBATAN_VERSION "1.4"
 
 /* How many signals a street can have, and so how long the lists in a CorbatanSheet are. */
 #define CORBATAN_MAX_SIGNALS 32
@@ -64,16 +65,17 @@
 
 /*
  * How many bytes of stack are enough for any of the calls, with its arguments and its reply. client/stack.c measures
- * what they take, on streets of up to 32 signals, on requests and on refusals: corbatan_print 12,696, a plan 10,120,
- * corbatan_read 1,328, corbatan_write 1,072, corbatan_measure 2,008. The rest is room, as for the dynamic linker, which
- * takes some 2,000 bytes of the caller's stack where it binds memcpy or memset at their first use.
+ * what they take, on streets of up to 32 signals, on requests and on refusals: corbatan_print 12,728,
+ * corbatan_volumes 10,200, any other plan 10,152, corbatan_read 1,328, corbatan_write 1,072, corbatan_measure 2,008.
+ * The rest is room, as for the dynamic linker, which takes some 2,000 bytes of the caller's stack where it binds memcpy
+ * or memset at their first use.
  */
 #define CORBATAN_STACK 20480
 
 /*
  * What `code` says, and what `place` then names, counted from 1. Of a street's faults the one with the smallest code
- * is given, at its first place, except that corbatan_write gives code 3 last of all; of a sheet's the first that
- * reading comes to.
+ * is given, at its first place, except that corbatan_volumes gives code 11 before code 8, and corbatan_write code 3
+ * last of all; of a sheet's the first that reading comes to.
  */
 #define CORBATAN_OK 0       /* Nothing was refused; place 0. */
 #define CORBATAN_SHEET 1    /* The bytes are not formed as a sheet; place 0. */
@@ -83,9 +85,10 @@
 #define CORBATAN_RED 5      /* A red is not 1 tick to one tick less than the cycle; the signal. */
 #define CORBATAN_DISTANCE 6 /* A distance is above 20,000,000 mm or not above the one before; the signal. */
 #define CORBATAN_SPEED 7    /* A speed is not 1,000 to 40,000 mm/s; the link. */
-#define CORBATAN_PLATOON 8  /* A platoon is longer than 100,000 halves; 1 outbound, 2 inbound. */
+#define CORBATAN_PLATOON 8  /* A platoon, given or of a volume, is longer than 100,000 halves; 1 outbound, 2 inbound. */
 #define CORBATAN_WIDTH 9    /* A requested width is below 1, below B or above the least H - 2r; place 0. */
 #define CORBATAN_OFFSET 10  /* A measured offset is not below H; the signal. */
+#define CORBATAN_VOLUME 11  /* A volume is above 10,000 or a headway not 1 to 100; 1 outbound, 2 inbound, 3 headway. */
 
 #ifdef __cplusplus
 extern "C" {
@@ -103,6 +106,13 @@ typedef struct CorbatanPlan {
     uint32_t starts;    /* The instant at c at which the named outbound band starts, in halves, below H; given for width 0 too. */
     uint32_t ends;      /* The instant at c at which the named inbound band ends, in halves, below H; given for width 0 too. */
 } CorbatanPlan;
+
+/* A plan for volumes, and the largest volumes that fit it; in a refusal these are 0. It has 44 bytes. */
+typedef struct CorbatanVolumes {
+    CorbatanPlan plan;        /* The plan, or the refusal with its code and place. */
+    uint32_t outbound_volume; /* The largest volume, 0 to 10,000, whose platoon is at most the outbound width. */
+    uint32_t inbound_volume;  /* The largest volume, 0 to 10,000, whose platoon is at most the inbound width. */
+} CorbatanVolumes;
 
 /*
  * The bands of given offsets, a band of width 0 with start 0; or a refusal, whose numbers but code and place are 0.
@@ -208,6 +218,20 @@ CorbatanPlan corbatan_platoons(
     const uint32_t *outbound, size_t outbound_count,
     const uint32_t *inbound, size_t inbound_count,
     uint32_t outbound_platoon, uint32_t inbound_platoon,
+    uint32_t *offsets, size_t offsets_count);
+
+/*
+ * Plans by the volumes of the two directions, in vehicles an hour, and one headway for both, in ticks. The platoon of
+ * a volume has volume * cycle * headway / 18,000 halves, rounded up, and the plan is the one that corbatan_platoons
+ * gives for the two platoons.
+ */
+CorbatanVolumes corbatan_volumes(
+    uint32_t cycle,
+    const uint32_t *reds, size_t reds_count,
+    const uint32_t *distances, size_t distances_count,
+    const uint32_t *outbound, size_t outbound_count,
+    const uint32_t *inbound, size_t inbound_count,
+    uint32_t outbound_volume, uint32_t inbound_volume, uint32_t headway,
     uint32_t *offsets, size_t offsets_count);
 
 /* Measures n offsets in halves, which are an input like the other lists and are not written. */

@@ -171,19 +171,35 @@ function green(    k, most) {
     return 2 * (cycle - most)
 }
 
+# The direction that is the place of a platoon or a volume.
+function way() { return place == 1 ? "outbound" : "inbound" }
+
+# A platoon that is too long: one that was typed, or that of a volume, V*C*h/18,000 rounded up.
+function platoon_fault(    halves, limit) {
+    limit = "above 100,000 halves, twentieths of a second"
+    if (word[1] != "volumes") return "the " way() " platoon, " word[1 + place] ", is " limit
+    halves = int((word[1 + place] * cycle * word[4] + 17999) / 18000)
+    return "the " way() " volume, " word[1 + place] ", comes to a platoon of " halves " halves at this cycle and headway, " limit
+}
+
+function volume_fault() {
+    if (place == 3) return "the headway, " word[4] ", is not from 1 to 100 ticks, tenths of a second"
+    return "the " way() " volume, " word[1 + place] ", is above 10,000 vehicles an hour"
+}
+
 # The sentence about a code that came from the numbers: those of the sheet, 4 to 7, or those of the request.
 function number_fault() {
     if (code == 4) return "line 2 has " quoted(2) ", and the cycle is not from 10 to 6,000 ticks, tenths of a second"
     if (code == 5) return red_fault()
     if (code == 6) return distance_fault()
     if (code == 7) return speed_fault()
-    if (code == 8)
-        return "the " (place == 1 ? "outbound" : "inbound") " platoon, " word[1 + place] ", is above 100,000 halves, twentieths of a second"
+    if (code == 8) return platoon_fault()
     if (code == 9)
         return "the width " word[2] " is not from the greater of 1 and B, the second number of the equal plan, up to " \
             green() " halves, the shortest green"
     if (code == 10)
         return "the offset of signal " place ", " word[1 + place] ", is not below the cycle of " 2 * cycle " halves"
+    if (code == 11) return volume_fault()
     return ""
 }
 

@@ -119,7 +119,7 @@ fn note_plan(tally: &mut Tally, street: &Street, ask: Ask, plan: &Plan) {
             tally.note("width asked at its most", width == g);
         }
         Ask::Platoons(out, back) => note_platoons(tally, (out, back), plan, g),
-        Ask::Equal => panic!("nothing asks for an equal plan here"),
+        Ask::Equal | Ask::Volumes(..) => panic!("nothing asks for `{ask}` here"),
     }
 }
 
@@ -144,7 +144,7 @@ fn note_platoons(tally: &mut Tally, (out, back): (i64, i64), plan: &Plan, g: i64
 }
 
 /// The branch of the platoon rule that two unlike platoons take.
-fn branch(larger: i64, sum: i64, best: i64, g: i64) -> &'static str {
+pub fn branch(larger: i64, sum: i64, best: i64, g: i64) -> &'static str {
     if sum <= 2 * best && 2 * best * larger / sum > g {
         "share cut to g"
     } else if sum <= 2 * best && larger == sum {

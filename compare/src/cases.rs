@@ -1,8 +1,7 @@
 //! The program `cases` as a model: many requests in one input, each with its sheet, and a reply to each.
 
-use crate::moved::{plan, Ask};
-use crate::printed::{measure_prints, printed, write_prints};
-use crate::sheet::read;
+use crate::moved::Ask;
+use crate::printed::{asked_prints, measure_prints, write_prints};
 use crate::street::MAX_SIGNALS;
 
 pub const LARGEST_INPUT: usize = 65_536;
@@ -40,6 +39,9 @@ pub fn ask<'a>(words: &'a [&'a str]) -> Option<(Ask, &'a [&'a str])> {
         ["outbound", width, rest @ ..] => Some((Ask::Outbound(number(width)?), rest)),
         ["inbound", width, rest @ ..] => Some((Ask::Inbound(number(width)?), rest)),
         ["platoons", out, back, rest @ ..] => Some((Ask::Platoons(number(out)?, number(back)?), rest)),
+        ["volumes", out, back, headway, rest @ ..] => {
+            Some((Ask::Volumes(number(out)?, number(back)?, number(headway)?), rest))
+        }
         _ => None,
     }
 }
@@ -64,9 +66,7 @@ pub fn reply(case: &[u8]) -> String {
     let end = case.iter().position(|&byte| byte == 10);
     let served = end.and_then(|end| Some((request(&case[..end])?, &case[end + 1..])));
     match served {
-        Some((Request::Plan { ask, room }, sheet)) => {
-            printed(&read(sheet).and_then(|street| plan(&street, ask, room)))
-        }
+        Some((Request::Plan { ask, room }, sheet)) => asked_prints(sheet, ask, room),
         Some((Request::Measure { offsets }, sheet)) => measure_prints(sheet, &offsets),
         Some((Request::Write { room }, sheet)) => write_prints(sheet, room),
         None => "bad request\n".to_string(),

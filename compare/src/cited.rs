@@ -9,7 +9,7 @@ use std::path::Path;
 
 /// The functions that a user calls, by their crate; those for C are found by their mark.
 const CALLS: [(&str, &[&str]); 6] = [
-    ("plans", &["plan_for", "equal", "outbound", "inbound", "platoons"]),
+    ("plans", &["plan_for", "equal", "outbound", "inbound", "platoons", "volumes"]),
     ("bands", &["measure"]),
     ("sheet", &["read"]),
     ("writer", &["write"]),

@@ -8,6 +8,7 @@ use crate::named::named;
 use crate::printed::plan_prints;
 use crate::sheet::{read, written};
 use crate::street::{Refusal, Street};
+use crate::volumes::fitting;
 
 /// What the client fills its lent list with; no offset is as large.
 const PATTERN: i64 = 77_777;
@@ -40,8 +41,9 @@ pub fn prints(words: &[&str], sheet: &[u8]) -> String {
 /// All that it prints for empty lists.
 pub fn empty() -> String {
     let none = Street { cycle: 600, reds: vec![], distances: vec![], outbound: vec![], inbound: vec![] };
-    let asks = [Ask::Equal, Ask::Outbound(80), Ask::Inbound(80), Ask::Platoons(30, 10)];
-    let plans: String = asks.map(|ask| plan_line(&none, &plan(&none, ask, 0))).concat();
+    let asks =
+        [Ask::Equal, Ask::Outbound(80), Ask::Inbound(80), Ask::Platoons(30, 10), Ask::Volumes(800, 300, 20)];
+    let plans: String = asks.map(|ask| plan_lines(&none, ask, &plan(&none, ask, 0))).concat();
     let told = numbers(&read(b"")) + &plan_prints(b"") + &plans + &measure_line(&none, &[]);
     told + &writing_lines(&none, 0)
 }
@@ -78,6 +80,19 @@ fn plan_line(street: &Street, reply: &Result<Plan, Refusal>) -> String {
     line + &format!(" inbound {inbound} rounded {rounded} starts {starts} ends {ends}\n")
 }
 
+/// The same, and for volumes a line with the largest that fit; those of a refusal are 0.
+fn plan_lines(street: &Street, ask: Ask, reply: &Result<Plan, Refusal>) -> String {
+    let line = plan_line(street, reply);
+    match ask {
+        Ask::Volumes(_, _, headway) => {
+            let largest = |plan: &Plan| fitting(plan, street.cycle, headway);
+            let [out, back] = reply.as_ref().map_or([0; 2], largest);
+            line + &format!("volumes outbound {out} inbound {back}\n")
+        }
+        _ => line,
+    }
+}
+
 fn measure_line(street: &Street, offsets: &[i64]) -> String {
     let reply = measured(street, offsets);
     let nothing = Band { width: 0, start: 0 };
@@ -92,7 +107,7 @@ fn planned(street: &Street, ask: Ask, room: usize) -> String {
     let mut lent = reply.as_ref().map_or(vec![], |plan| plan.offsets.clone());
     lent.resize(room, PATTERN);
     let measure = reply.as_ref().map_or(String::new(), |plan| measure_line(street, &plan.offsets));
-    plan_line(street, &reply) + &list("list", &lent) + &measure
+    plan_lines(street, ask, &reply) + &list("list", &lent) + &measure
 }
 
 /// The reply of the writer, and the lent list of bytes after it.

@@ -23,6 +23,12 @@ pub fn nearest(over: i128, under: i128) -> i128 {
     (2 * over + under).div_euclid(2 * under)
 }
 
+/// A number of four to six digits with a comma after the thousands.
+pub fn grouped(number: impl Into<i128>) -> String {
+    let number = number.into();
+    format!("{},{:03}", number / 1_000, number % 1_000)
+}
+
 pub fn seconds(halves: i64) -> String {
     decimal(halves.into(), 20, 2)
 }

@@ -1,14 +1,15 @@
 //! The rules of `docs/RULES.md` a second time, and what holds the programs to them.
 //!
-//! The model (`street`, `equal`, `moved`, `bands`, `named`, `exact`, `sheet`, `printed`, `cases`, `client`) follows the
-//! rules' signed formulas as they stand, by brute force, and shares nothing with the proved crates. The rest makes
-//! sheets and requests (`random`, `streets`, `limits`, `damage`, `offsets`, `asks`), runs the programs and the scripts
-//! on them (`run`, `scripts`) and compares (`trial`, `hold`, `coverage`, `asked`, `tally`); `page`, `paper` and
-//! `decimal` read the pages whose sheets and tables are run, and `pencil` works out what a page does by hand. `specs`
-//! reads the definitions themselves, for what is said of their names, and `cited` (with `terms`) counts how many lines of
-//! them the contracts and the demands come to.
+//! The model (`street`, `equal`, `moved`, `volumes`, `bands`, `named`, `exact`, `sheet`, `printed`, `cases`, `client`)
+//! follows the rules' signed formulas as they stand, by brute force, and shares nothing with the proved crates. The rest
+//! makes sheets and requests (`random`, `streets`, `limits`, `damage`, `offsets`, `asks`), runs the programs and the
+//! scripts on them (`run`, `scripts`) and compares (`trial`, `hold`, `coverage`, `asked`, `asked_volumes`, `tally`);
+//! `page`, `paper` and `decimal` read the pages whose sheets and tables are run, and `pencil` works out what a page does by
+//! hand. `specs` reads the definitions themselves, for what is said of their names, and `cited` (with `terms`) counts how
+//! many lines of them the contracts and the demands come to.
 
 pub mod asked;
+pub mod asked_volumes;
 pub mod asks;
 pub mod bands;
 pub mod cases;
@@ -38,3 +39,4 @@ pub mod streets;
 pub mod tally;
 pub mod terms;
 pub mod trial;
+pub mod volumes;

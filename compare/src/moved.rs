@@ -1,18 +1,21 @@
-//! Every plan that can be asked for: the equal one, one with a requested width, and one from two platoon lengths.
+//! Every plan that can be asked for: the equal one, one with a requested width, and one from two platoon lengths or two
+//! volumes.
 
 use crate::equal::{equal, Pairs, Plan};
 use crate::street::{refusal, Refusal, Street};
+use crate::volumes::platoons;
 use std::fmt::{Display, Formatter};
 
 pub const MAX_PLATOON: i64 = 100_000;
 
-/// What a plan is asked for, in halves.
+/// What a plan is asked for: widths and platoons in halves, volumes in vehicles an hour with their headway in ticks.
 #[derive(Clone, Copy, Debug, PartialEq)]
 pub enum Ask {
     Equal,
     Outbound(i64),
     Inbound(i64),
     Platoons(i64, i64),
+    Volumes(i64, i64, i64),
 }
 
 impl Display for Ask {
@@ -22,6 +25,7 @@ impl Display for Ask {
             Ask::Outbound(width) => write!(text, "outbound {width}"),
             Ask::Inbound(width) => write!(text, "inbound {width}"),
             Ask::Platoons(out, back) => write!(text, "platoons {out} {back}"),
+            Ask::Volumes(out, back, headway) => write!(text, "volumes {out} {back} {headway}"),
         }
     }
 }
@@ -57,6 +61,16 @@ pub fn platoon_rule(out: i64, back: i64, best: i64, g: i64) -> Ask {
     }
 }
 
+/// What is asked for, with volumes turned into their platoons; or the first fault of volumes and headway.
+fn counted(ask: Ask, cycle: i64) -> Result<Ask, Refusal> {
+    match ask {
+        Ask::Volumes(out, back, headway) => {
+            platoons(out, back, headway, cycle).map(|(out, back)| Ask::Platoons(out, back))
+        }
+        _ => Ok(ask),
+    }
+}
+
 fn platoon_fault(ask: Ask) -> Option<Refusal> {
     match ask {
         Ask::Platoons(out, _) if out > MAX_PLATOON => Some(refusal(8, 1)),
@@ -68,6 +82,7 @@ fn platoon_fault(ask: Ask) -> Option<Refusal> {
 /// The plan of a street for what is asked, with a lent list of `room` entries, or the first fault.
 pub fn plan(street: &Street, ask: Ask, room: usize) -> Result<Plan, Refusal> {
     let plan = equal(street, room)?;
+    let ask = counted(ask, street.cycle)?;
     if let Some(refusal) = platoon_fault(ask) {
         return Err(refusal);
     }

@@ -2,8 +2,10 @@
 
 use crate::bands::{measured, Band};
 use crate::equal::{equal, Plan};
+use crate::moved::{plan, Ask};
 use crate::sheet::{read, written};
 use crate::street::{Refusal, MAX_SIGNALS};
+use crate::volumes::fitting;
 
 pub fn printed(reply: &Result<Plan, Refusal>) -> String {
     match reply {
@@ -33,6 +35,19 @@ pub fn plan_in(text: &str) -> Option<Plan> {
         }
         _ => None,
     }
+}
+
+/// What a sheet gets for what is asked, with a lent list of `room` entries: a plan, and for volumes one line more, with
+/// the largest that fit it.
+pub fn asked_prints(sheet: &[u8], ask: Ask, room: usize) -> String {
+    let street = read(sheet);
+    let reply = street.clone().and_then(|street| plan(&street, ask, room));
+    let mut text = printed(&reply);
+    if let (Ok(street), Ok(plan), Ask::Volumes(_, _, headway)) = (&street, &reply, ask) {
+        let [out, back] = fitting(plan, street.cycle, headway);
+        text.push_str(&format!("{out} {back}\n"));
+    }
+    text
 }
 
 /// What a sheet gets for offsets to be measured: outbound width and start, inbound width and start.

@@ -26,7 +26,7 @@ pub fn refusal(code: i64, place: i64) -> Refusal {
     Refusal { code, place }
 }
 
-fn outside(value: i64, range: (i64, i64)) -> bool {
+pub fn outside(value: i64, range: (i64, i64)) -> bool {
     value < range.0 || value > range.1
 }
 

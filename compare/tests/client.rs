@@ -1,7 +1,7 @@
 //! The C client over the compiled archive, which `client/run` builds, held to the model: on every sheet of
 //! docs/SHEETS.md, on the sample sheets with requests at the ends of their ranges, and on random sheets.
 
-use compare::asks::ask;
+use compare::asks::{ask, volumes};
 use compare::client::{empty, prints, LARGEST_BYTES};
 use compare::equal::Pairs;
 use compare::moved::{shortest_green, MAX_PLATOON};
@@ -12,11 +12,12 @@ use compare::sheet::{read, write, written, LARGEST_SHEET, STREET_A};
 use compare::street::Street;
 use compare::streets;
 use compare::trial::{in_parallel, indented, Case};
+use compare::volumes::{HEADWAY, MAX_VOLUME};
 use std::fs;
 use std::path::PathBuf;
 
 const SEED: u64 = 1_966;
-const RANDOM: u64 = 160;
+const RANDOM: u64 = 200;
 
 /// The greatest lent list of the client.
 const LARGEST_ROOM: usize = 64;
@@ -56,7 +57,8 @@ fn hold(runs: &[Run]) {
 }
 
 /// What is asked about any sheet that can be read; the first two are enough for one that cannot.
-const ALWAYS: [&str; 7] = ["", "print", "numbers", "unequal", "room 0", "write", "write 0"];
+const ALWAYS: [&str; 8] =
+    ["", "print", "numbers", "unequal", "room 0", "write", "write 0", "volumes 10001 10001 101"];
 
 /// What is asked about a sheet: of a street that has a plan also requests and lists at the ends of their ranges.
 fn questions(sheet: &[u8]) -> Vec<String> {
@@ -82,9 +84,19 @@ fn at_the_ends(street: &Street) -> Vec<String> {
     let sides = widths.map(|width| [format!("outbound {width}"), format!("inbound {width}")]);
     let rooms = [n - 1, LARGEST_ROOM].map(|room| format!("room {room}"));
     let platoons = platoons.map(|(out, back)| format!("platoons {out} {back}"));
+    let volumes = [
+        (0, 0, HEADWAY.0),
+        (1, 0, HEADWAY.1),
+        (0, MAX_VOLUME, HEADWAY.0),
+        (MAX_VOLUME, MAX_VOLUME, HEADWAY.1),
+        (MAX_VOLUME, MAX_VOLUME + 1, HEADWAY.1),
+        (MAX_VOLUME, 0, 0),
+        (0, MAX_VOLUME, HEADWAY.1 + 1),
+    ];
+    let volumes = volumes.map(|(out, back, headway)| format!("volumes {out} {back} {headway}"));
     let bytes = write(street).len();
     let sheets = [bytes, bytes - 1].map(|room| format!("write {room}"));
-    sides.into_iter().flatten().chain(rooms).chain(platoons).chain(sheets).collect()
+    sides.into_iter().flatten().chain(rooms).chain(platoons).chain(volumes).chain(sheets).collect()
 }
 
 #[test]
@@ -118,7 +130,7 @@ fn the_client_is_right_on_the_sample_sheets() {
         let run = |words: String| Run { file: file.clone(), sheet: sheet.clone(), words };
         runs.extend(questions(&sheet).into_iter().map(run));
     }
-    assert!(runs.len() >= 250, "{} starts", runs.len());
+    assert!(runs.len() >= 400, "{} starts", runs.len());
     hold(&runs);
 }
 
@@ -128,10 +140,11 @@ fn random_run(number: u64) -> Run {
     let street = streets::street(random);
     let (n, any) = (street.signals(), random.below(LARGEST_ROOM + 1));
     let (bytes, some) = (write(&street).len(), random.below(LARGEST_BYTES + 1));
-    let words = match random.below(10) {
+    let words = match random.below(12) {
         0 | 1 => random.pick(&ALWAYS).to_string(),
         2 => format!("room {}", random.pick(&[n - 1, n, n + 1, any])),
         3 | 4 => format!("write {}", random.pick(&[bytes - 1, bytes, bytes + 1, some])),
+        5..=7 => volumes(random, &street).to_string(),
         _ => ask(random, &street).to_string(),
     };
     let case = Case::asking(random, number, words, &street);
@@ -142,9 +155,19 @@ fn random_run(number: u64) -> Run {
 fn the_client_is_right_on_random_sheets() {
     let runs: Vec<Run> = (0..RANDOM).map(random_run).collect();
     let told = |run: &Run| prints(&run.words.split_whitespace().collect::<Vec<&str>>(), &run.sheet);
-    let met = |start: &str| runs.iter().filter(|run| told(run).starts_with(start)).count();
-    for (start, wanted) in [("plan code 0 ", 40), ("writing code 0 ", 10), ("writing code 3 ", 5)] {
-        assert!(met(start) >= wanted, "{} replies `{start}`", met(start));
+    let met = |start: &str, part: &str| {
+        runs.iter().map(told).filter(|text| text.starts_with(start) && text.contains(part)).count()
+    };
+    let wanted = [
+        ("plan code 0 ", "", 40),
+        ("plan code 0 ", "\nvolumes outbound ", 15),
+        ("plan code 11 ", "\nvolumes outbound 0 inbound 0\n", 3),
+        ("writing code 0 ", "", 10),
+        ("writing code 3 ", "", 5),
+    ];
+    for (start, part, wanted) in wanted {
+        let met = met(start, part);
+        assert!(met >= wanted, "{met} replies `{start}` with `{}`", part.trim());
     }
     hold(&runs);
 }
@@ -184,12 +207,13 @@ fn the_client_hands_over_empty_lists() {
 #[test]
 fn the_client_tells_bad_words_from_a_refusal() {
     let client = Program::client();
-    let bad: [&[&str]; 6] = [
+    let bad: [&[&str]; 7] = [
         &[],
         &["/dev/stdin", "equal"],
         &["/dev/stdin", "outbound"],
         &["/dev/stdin", "room", "65"],
         &["/dev/stdin", "write", "836"],
+        &["/dev/stdin", "volumes", "800", "300"],
         &["no-such-sheet.txt"],
     ];
     for words in bad {
@@ -212,7 +236,7 @@ fn shown() -> Vec<(String, String)> {
 #[test]
 fn the_clients_shown_lines_are_the_models() {
     let cases = shown();
-    let street_a = ["", " room 1", " unequal", " write 36", " write 35"];
+    let street_a = ["", " room 1", " unequal", " write 36", " write 35", " volumes 800 300 20"];
     let wanted = street_a.map(|words| format!("sheets/street-a.txt{words}"));
     for words in wanted.iter().map(String::as_str).chain(["empty"]) {
         assert!(cases.iter().any(|(shown, _)| shown == words), "client/expected.txt does not show {words}");

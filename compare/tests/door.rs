@@ -2,6 +2,7 @@
 //! answer that cannot be written, and that they end what they have started.
 
 use compare::page::{coded, listed, sheet, Page};
+use compare::paper::{reply, REPLIES};
 use compare::run::{repository, text};
 use compare::scripts::{bash, ended, script, written_otherwise, Ended, Folder, TESTED};
 use compare::sheet::STREET_A;
@@ -51,6 +52,13 @@ fn a_file_is_found_from_the_callers_folder_whatever_its_name() {
     }
 }
 
+/// Holds a script to its answer to words that cannot be taken: why, and how they go.
+fn expect_misused(name: &str, words: &[&str], why: &str) {
+    let ended = script(name, words, STREET_A);
+    expect(&format!("{name} {words:?}"), &ended, 2, "", why);
+    assert!(ended.said.contains(&format!("\nusage: ./{name} [")), "{ended:?}");
+}
+
 #[test]
 fn words_that_cannot_be_taken_are_answered_with_why() {
     let usages = [
@@ -63,7 +71,7 @@ fn words_that_cannot_be_taken_are_answered_with_why() {
         (
             "ask",
             vec!["equals"],
-            "ask: there is no request equals; there are equal, outbound, inbound, platoons, measure and write\n",
+            "ask: there is no request equals; there are equal, outbound, inbound, platoons, volumes, measure and write\n",
         ),
         ("ask", vec!["writes"], "ask: there is no request writes; there are equal, outbound"),
         ("ask", vec!["write", "5", "a"], "ask: one street sheet is read, and here are 2: 5 a\n"),
@@ -78,14 +86,27 @@ fn words_that_cannot_be_taken_are_answered_with_why() {
         ),
     ];
     for (name, words, why) in usages {
-        let ended = script(name, &words, STREET_A);
-        expect(&format!("{name} {words:?}"), &ended, 2, "", why);
-        assert!(ended.said.contains(&format!("\nusage: ./{name} [")), "{ended:?}");
+        expect_misused(name, &words, why);
     }
     for name in ["plan", "ask", "install"] {
         let help = script(name, &["--help"], b"");
         let usage = help.printed.starts_with(&format!("usage: ./{name} ")) && help.printed.contains("--");
         assert!(help.status == Some(0) && usage && help.said.is_empty(), "{help:?}");
+    }
+}
+
+#[test]
+fn volumes_take_three_numbers() {
+    let large = "ask: in 'volumes 800 300 4294967296' a number is 4,294,967,296 or more\n";
+    let usages: [(&[&str], &str); 5] = [
+        (&["volume", "800", "300", "20"], "ask: there is no request volume; there are equal, outbound"),
+        (&["volumes", "800", "300"], "ask: volumes 800 300 lacks a number\n"),
+        (&["volumes", "800", "300", "2.0"], "ask: volumes 800 300 lacks a number, since 2.0 is none"),
+        (&["volumes", "800", "300", "20", "5", "a"], "ask: one street sheet is read, and here are 2: 5 a\n"),
+        (&["volumes", "800", "300", "4294967296"], large),
+    ];
+    for (words, why) in usages {
+        expect_misused("ask", words, why);
     }
 }
 
@@ -159,12 +180,11 @@ fn the_pages_tables_can_be_asked_as_they_stand() {
         let mut next = || words.next().expect("a row has a sheet, a request and a reply");
         ask_row(next(), next(), next());
     }
-    let paper = Page::open("PAPER.md").table("| Sheet | Request | Reply | Offsets |");
+    let paper = Page::open("PAPER.md").table(REPLIES);
     for row in &paper {
-        let offsets = row[3].split_whitespace().map(|offset| format!("{offset}\n"));
-        ask_row(&row[0], &row[1], &format!("{}\n{}", row[2], offsets.collect::<String>()));
+        ask_row(&row[0], &row[1], &reply(row));
     }
-    assert_eq!((lines.len(), paper.len()), (25, 19));
+    assert_eq!((lines.len(), paper.len()), (35, 19));
 }
 
 #[test]
@@ -174,12 +194,13 @@ fn the_commands_of_the_first_page_work() {
     let starts = |line: &&str| line.starts_with("    ./plan ") || line.starts_with("    ./ask ");
     let commands: Vec<String> = page.lines().filter(starts).map(command).collect();
     let words: Vec<&str> = commands.iter().filter_map(|line| line.split(' ').nth(1)).collect();
-    assert_eq!(words, ["sheets/street-a.txt", "outbound", "platoons", "measure", "write"]);
+    assert_eq!(words, ["sheets/street-a.txt", "outbound", "platoons", "volumes", "measure", "write"]);
     let sheet = text("sheets/street-a.txt");
     let printed = [
         "1 60 60 60 0\n0\n10\n",
         "1 60 80 40 0\n180\n10\n",
         "1 60 90 30 0\n170\n10\n",
+        "1 60 89 31 0\n171\n10\n801 279\n",
         "60 40 60 60\n",
         &sheet,
     ];
@@ -227,6 +248,31 @@ fn what_is_asked_is_said_to_be_tested_and_refusals_are_explained() {
         "refused 1 0\n",
         "line 4 should have the distance and the red of signal 1 of 1, and has \"0 240<0>\"",
     );
+}
+
+#[test]
+fn refused_volumes_are_explained() {
+    let (a, long) = ("sheets/street-a.txt", "sheets/row-long-cycle.txt");
+    let refusals = [
+        (
+            ["10001", "300", "20", a],
+            "11 1",
+            "the outbound volume, 10001, is above 10,000 vehicles an hour.\n",
+        ),
+        (["800", "10001", "20", a], "11 2", "the inbound volume, 10001, is above 10,000 vehicles an hour.\n"),
+        (["800", "300", "0", a], "11 3", "the headway, 0, is not from 1 to 100 ticks, tenths of a second.\n"),
+        (["3001", "0", "100", long], "8 1", "the outbound volume, 3001, comes to a platoon of 100034 halves"),
+        (
+            ["3000", "3001", "100", long],
+            "8 2",
+            "the inbound volume, 3001, comes to a platoon of 100034 halves",
+        ),
+    ];
+    for ([out, back, headway, file], refused, said) in refusals {
+        let ended = script("ask", &["volumes", out, back, headway, file], b"");
+        expect(said, &ended, 1, &format!("refused {refused}\n"), said);
+        assert!(ended.said.contains("ask: docs/RULES.md says what a request may ask"), "{ended:?}");
+    }
 }
 
 #[test]

@@ -1,11 +1,17 @@
-//! From a refusal to its line: the slips that people make, typed into copies of the samples, and damaged sheets.
+//! From a refusal to its line: the slips that people make, typed into copies of the samples, and damaged sheets; and from
+//! refused volumes to the number at fault.
 
-use compare::page::{sheet, Page};
+use compare::asks::volumes;
+use compare::moved::{plan, Ask};
+use compare::page::{sheet, street, Page};
 use compare::printed::plan_prints;
+use compare::random::Random;
 use compare::scripts::{ended, look, script, written_otherwise, Ended};
 use compare::sheet::{fault_line, number, read, LARGEST_SHEET};
-use compare::street::Street;
+use compare::street::{Refusal, Street, MAX_SIGNALS};
+use compare::tally::Tally;
 use compare::trial::{in_parallel, Case};
+use compare::volumes::platoon;
 use std::process::Command;
 
 /// A slip: what it is, the sample with the slip in it, the code and place that it gets, the line that it leads to, and
@@ -376,4 +382,39 @@ fn damaged_sheets_lead_to_the_line_of_the_model() {
     assert!(
         planned > 600 && counts[0] > 300 && counts[1] > 60 && counts[2..].iter().all(|&count| count > 10)
     );
+}
+
+/// What is said of volumes that are refused by code 11 or 8.
+fn about_volumes(cycle: i64, ask: Ask, Refusal { code, place }: Refusal) -> String {
+    let (out, back, headway) = match ask {
+        Ask::Volumes(out, back, headway) => (out, back, headway),
+        _ => panic!("`{ask}` has no volumes"),
+    };
+    let (way, volume) = if place == 1 { ("outbound", out) } else { ("inbound", back) };
+    let told = match (code, place) {
+        (11, 3) => format!("the headway, {headway}, is not from 1 to 100 ticks, tenths of a second"),
+        (11, _) => format!("the {way} volume, {volume}, is above 10,000 vehicles an hour"),
+        _ => {
+            let halves = platoon(volume, cycle, headway);
+            format!("the {way} volume, {volume}, comes to a platoon of {halves} halves at this cycle and headway, ")
+                + "above 100,000 halves, twentieths of a second"
+        }
+    };
+    format!("refused, code {code}: {told}.\n")
+}
+
+#[test]
+fn volumes_that_are_refused_are_named_with_what_they_come_to() {
+    let (long, bytes) = (street("row-long-cycle.txt"), sheet("row-long-cycle.txt"));
+    let asked: Vec<Ask> = (0..600).map(|k| volumes(&mut Random::new(11, k), &long)).collect();
+    let told = in_parallel(&asked, |&ask| {
+        let refusal = plan(&long, ask, MAX_SIGNALS).err()?;
+        let said = look(&bytes, refusal.code, refusal.place, &ask.to_string());
+        assert_eq!(said, about_volumes(long.cycle, ask, refusal), "{ask}");
+        Some(refusal)
+    });
+    let mut tally =
+        Tally::of(&[("11 at 1", 10), ("11 at 2", 10), ("11 at 3", 5), ("8 at 1", 10), ("8 at 2", 5)]);
+    told.iter().for_each(|Refusal { code, place }| tally.note(&format!("{code} at {place}"), true));
+    tally.close();
 }

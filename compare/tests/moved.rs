@@ -3,9 +3,8 @@
 //! `COMPARE_SEED` sets the seed of the random cases, and `COMPARE_CASE` replays one of them by its number.
 
 use compare::asked::cover;
-use compare::asks::ask;
+use compare::asks::{ask, room};
 use compare::bands::{clear, measure};
-use compare::cases::LARGEST_ROOM;
 use compare::equal::Plan;
 use compare::hold::{expect, hold, plans, plans_asked, widths};
 use compare::moved::{papers_width, plan, platoon_rule, shortest_green, Ask};
@@ -23,11 +22,7 @@ const CASES: u64 = 5_000;
 fn random_case(seed: u64, number: u64) -> Case {
     let random = &mut Random::new(seed, number);
     let street = streets::street(random);
-    let mut request = ask(random, &street).to_string();
-    if random.one_in(8) {
-        let (n, any) = (street.signals(), random.below(LARGEST_ROOM + 1));
-        request += &format!(" room {}", random.pick(&[0, n - 1, n, LARGEST_ROOM, any]));
-    }
+    let request = ask(random, &street).to_string() + &room(random, &street);
     Case::asking(random, number, request, &street)
 }
 

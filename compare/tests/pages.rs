@@ -2,18 +2,21 @@
 
 use compare::bands::{measure, Band};
 use compare::cases::{input, output};
-use compare::decimal::{decimal, digits, gain, nearest, number, seconds};
+use compare::decimal::{decimal, digits, gain, grouped, nearest, number, seconds};
 use compare::equal::{equal, Plan};
-use compare::moved::Ask;
+use compare::moved::{Ask, MAX_PLATOON};
 use compare::named::named;
 use compare::page::{coded, sheet, street, Page, Sample};
-use compare::paper::{alone, asked, conversions, euclid, measured, parts, quarter, sample};
-use compare::paper::{LINKS, PARTS, SIGNALS};
+use compare::paper::{
+    alone, asked, conversions, euclid, measured, parts, quarter, reply, sample, served, through,
+};
+use compare::paper::{LINKS, PARTS, REPLIES, SIGNALS, TWO_SECONDS};
 use compare::printed::{plan_prints, printed};
 use compare::run::Program;
 use compare::sheet::{read, write, LARGEST_SHEET};
-use compare::street::{link_time, Street, Times, MAX_SIGNALS};
+use compare::street::{link_time, Street, Times, CYCLE, MAX_SIGNALS};
 use compare::streets::greatest;
+use compare::volumes::{fitting, platoon, HEADWAY, MAX_VOLUME, PER_HALF};
 use std::collections::BTreeSet;
 
 fn typists() -> (Page, Vec<Sample>) {
@@ -71,7 +74,7 @@ fn examples() -> Vec<(Vec<u8>, String)> {
 #[test]
 fn the_examples_come_out() {
     let examples = examples();
-    assert_eq!(examples.len(), 25);
+    assert_eq!(examples.len(), 35);
     let bytes = input(&examples.iter().map(|(case, _)| case).collect::<Vec<_>>());
     let expected: String = examples.iter().map(|(_, reply)| format!("{reply}\n")).collect();
     assert_eq!(output(&bytes), expected, "the model");
@@ -97,6 +100,31 @@ fn the_examples_show_how_times_are_rounded() {
     page.says(&format!("The link of 49 mm takes {a} ticks, row 9's of 50 mm takes {b}, and two links"));
     let rounded_sum = link_time(sum, two.outbound[0]).0;
     page.says(&format!("links of 50 mm take {c}, since each is rounded by itself; rounded as a sum they would take {rounded_sum}."));
+}
+
+#[test]
+fn the_examples_show_how_volumes_become_platoons() {
+    let (a, long) = (street("street-a.txt"), street("row-long-cycle.txt"));
+    let [per_half, fine] = [20, 1].map(|headway| PER_HALF / (a.cycle * headway));
+    let (plan, equal) = (asked(&a, Ask::Volumes(800, 300, 20)), asked(&a, Ask::Equal));
+    let [p, q, row_11, other, like] = [800, 300, 270, 90, 265].map(|volume| platoon(volume, a.cycle, 20));
+    let [longest, longer] = [3_000, 3_001].map(|volume| platoon(volume, long.cycle, HEADWAY.1));
+    assert_eq!((88 * 9 + 8, 33 * 9 + 3, 9), (800, 300, per_half));
+    assert_eq!((like, asked(&a, Ask::Volumes(265, 270, 20))), (row_11, equal.clone()));
+    assert_eq!((long.cycle, longest), (CYCLE.1, MAX_PLATOON));
+    let ([out, back], best) = (fitting(&plan, a.cycle, 20), equal.best);
+    let [fit, most, longest, longer] = [fine * best, MAX_VOLUME, longest, longer].map(grouped);
+    let told = [
+        format!("of {} ticks and a headway of 20, {per_half} vehicles an hour come to one half.", a.cycle),
+        format!("800 and 300 come to platoons of {p} and {q} halves, rounded up from 88 8/9 and 33 1/3,"),
+        format!("{out} and {back} are the most that fit the widths {} and {}.", plan.outbound, plan.inbound),
+        format!("270 and 90 come to {row_11} and {other} halves, as in row 11."),
+        format!("265 come to {like} as 270 do, and like platoons get the equal plan."),
+        format!("At a headway of 1 it takes {fine} to come to a half, and {fit} would fit the width {best};"),
+        format!("{most} is the most that is answered."),
+        format!("3,000 come to {longest} halves, and 3,001 to {longer}, which is too long a platoon."),
+    ];
+    told.iter().for_each(|sentence| Page::open("EXAMPLES.md").says(sentence));
 }
 
 #[test]
@@ -202,38 +230,44 @@ fn the_papers_links_became_the_sheets() {
 
 #[test]
 fn the_papers_volumes_became_platoons() {
-    let rows = Page::open("PAPER.md").table("| Volume, veh/h | Cycles | Halves |");
-    assert_eq!(rows.len(), 7);
+    let (page, cycle) = (Page::open("PAPER.md"), street("paper-sample.txt").cycle);
+    let rows = page.table("| Volume, veh/h | Cycles | Halves | Rounded up | Gained |");
+    assert_eq!(rows.iter().map(|row| number(&row[0])).collect::<Vec<_>>(), [0, 200, 400, 600, 850]);
     for row in rows {
-        let (over, under) =
-            if row[0].is_empty() { (digits(&row[1]), 10_000) } else { (number(&row[0]) * 2, 3_600) };
-        assert_eq!(decimal(over, under, 4), row[1]);
-        assert_eq!(nearest(over * 1_300, under), number(&row[2]));
+        let (over, under) = (number(&row[0]) * 2, 3_600);
+        let (halves, platoon) = (over * 1_300, platoon(number(&row[0]) as i64, cycle, TWO_SECONDS));
+        let gained = gain(i128::from(platoon) * under - halves, under);
+        let shown = [decimal(over, under, 4), decimal(halves, under, 3), platoon.to_string(), gained];
+        assert_eq!(row[1..], shown);
     }
 }
 
 #[test]
 fn the_programs_answer_as_the_papers_page_says() {
-    let rows = Page::open("PAPER.md").table("| Sheet | Request | Reply | Offsets |");
+    let rows = Page::open("PAPER.md").table(REPLIES);
     assert_eq!(rows.len(), 19);
     let case = |row: &Vec<String>| [row[1].as_bytes(), b"\n", &sheet(&row[0])].concat();
-    let text = |row: &Vec<String>| {
-        let offsets: String = row[3].split_whitespace().map(|offset| format!("{offset}\n")).collect();
-        format!("{}\n{offsets}\n", row[2])
-    };
     let bytes = input(&rows.iter().map(case).collect::<Vec<_>>());
-    let expected: String = rows.iter().map(text).collect();
+    let expected: String = rows.iter().map(|row| reply(row) + "\n").collect();
     assert_eq!(output(&bytes), expected, "the model");
     let answer = Program::cases().answer(&bytes).unwrap_or_else(|fault| panic!("{fault}"));
     assert_eq!(String::from_utf8_lossy(&answer), expected, "cases");
 }
 
-/// The sample's plans: for the volumes of a heading, inbound first, and what the platoon lost in parts of a half.
+/// The sample's plans: for the volumes of a heading, inbound first, and what the wider band gained in parts of a half.
 const COMBINATIONS: [(&str, Ask, i128); 3] = [
-    ("400 400", Ask::Platoons(289, 289), 0),
-    ("600 200", Ask::Platoons(144, 433), PARTS / 3),
-    ("850 0", Ask::Platoons(0, 614), 0),
+    ("400 400", Ask::Volumes(400, 400, TWO_SECONDS), 0),
+    ("600 200", Ask::Volumes(200, 600, TWO_SECONDS), 2 * PARTS / 3),
+    ("850 0", Ask::Volumes(0, 850, TWO_SECONDS), 0),
 ];
+
+/// The paper's bands at exact times, inbound and outbound, in parts of 33 to a second.
+const EXACT: [[i128; 2]; 3] = [[3 * 129, 3 * 129], [11 * 65, 6 * 129 - 11 * 65], [33 * 34, 0]];
+
+/// The digits of a printed number, and how many of its last digit's units make one.
+fn printed_number(cell: &str) -> (i128, i128) {
+    (digits(cell), 10i128.pow((cell.len() - cell.find('.').expect("a point") - 1) as u32))
+}
 
 #[test]
 fn the_papers_widths_stand_beside_ours() {
@@ -241,16 +275,34 @@ fn the_papers_widths_stand_beside_ours() {
     let rows =
         page.table("| Inbound veh/h | Outbound veh/h | Paper: inbound | Ours | Paper: outbound | Ours |");
     assert_eq!(rows.len(), 3);
-    // The paper's method at exact times, inbound and outbound, in parts of 33 to a second.
-    let exact = [[3 * 129, 3 * 129], [11 * 65, 6 * 129 - 11 * 65], [33 * 34, 0]];
-    for ((row, (volumes, ask, _)), exact) in rows.iter().zip(COMBINATIONS).zip(exact) {
+    for ((row, (volumes, ask, _)), exact) in rows.iter().zip(COMBINATIONS).zip(EXACT) {
         for (cell, width) in [&row[2], &row[4]].into_iter().zip(exact) {
-            let unit = 10i128.pow((cell.len() - cell.find('.').expect("a point") - 1) as u32);
-            assert!((33 * digits(cell) - width * unit).abs() < 33 * unit / 100_000, "{cell}");
+            let (digits, unit) = printed_number(cell);
+            assert!((33 * digits - width * unit).abs() < 33 * unit / 100_000, "{cell}");
         }
         let plan = asked(&sample, ask);
         assert_eq!(format!("{} {}", row[0], row[1]), volumes);
         assert_eq!((plan.reference, &row[3], &row[5]), (7, &seconds(plan.inbound), &seconds(plan.outbound)));
+    }
+}
+
+#[test]
+fn the_papers_largest_volumes_stand_beside_ours() {
+    let (page, sample) = (Page::open("PAPER.md"), street("paper-sample.txt"));
+    let through = "| Paper: inbound through | Ours | Paper: outbound through | Ours |";
+    let rows = page.table(&format!("| Inbound veh/h | Outbound veh/h {through}"));
+    assert_eq!(rows.len(), 3);
+    for ((row, (volumes, ask, _)), exact) in rows.iter().zip(COMBINATIONS).zip(EXACT) {
+        let [out, back] = fitting(&asked(&sample, ask), sample.cycle, TWO_SECONDS);
+        assert_eq!(format!("{} {}", row[0], row[1]), volumes);
+        for (k, (way, ours)) in [("inbound", back), ("outbound", out)].into_iter().enumerate() {
+            let (cell, way) = (&row[2 + 2 * k], if row[2] == row[4] { "both ways" } else { way });
+            let (digits, unit) = printed_number(cell);
+            // V vehicles an hour come to 13V/18 halves; the paper's numbers are good to some seven digits.
+            assert!((33 * 13 * digits - 20 * 18 * exact[k] * unit).abs() < 33 * 13 * unit / 5_000, "{cell}");
+            assert_eq!(row[3 + 2 * k], ours.to_string());
+            page.says(&format!("**{} {way}, ours {ours}.**", if digits == 0 { "0" } else { cell }));
+        }
     }
 }
 
@@ -264,9 +316,9 @@ fn header(volumes: &str) -> String {
 #[test]
 fn two_causes_account_for_every_offset() {
     let (page, sample) = (Page::open("PAPER.md"), street("paper-sample.txt"));
-    page.says("no offset is further off than 0.067 s");
+    page.says("no offset is further off than 0.061 s");
     let (exact, times, equal) = (parts(&page), Times::of(&sample), asked(&sample, Ask::Equal));
-    for (volumes, ask, lost) in &COMBINATIONS[1..] {
+    for (volumes, ask, wider) in &COMBINATIONS[1..] {
         let (rows, offsets) = (page.table(&header(volumes)), asked(&sample, *ask).offsets);
         assert_eq!(rows.len(), 10);
         for (j, row) in rows.iter().enumerate() {
@@ -281,9 +333,9 @@ fn two_causes_account_for_every_offset() {
             assert_eq!((number(&row[0]), &row[2..6]), (j as i128 + 1, &shown[..]));
             assert_eq!(row[6], gain(gained, PARTS));
             let lowered = offsets[j] != equal.offsets[j];
-            let cause = if lowered { lost - 2 * gained } else { 0 };
+            let cause = if lowered { -wider - 2 * gained } else { 0 };
             assert_eq!(gain(cause, 20 * PARTS), row[5], "signal {} of {volumes}", j + 1);
-            assert!(apart.abs() < 67 * unit / 1_000);
+            assert!(apart.abs() < 61 * unit / 1_000);
             // The digits that the paper prints are good to some hundred-thousandths of a second.
             assert!((apart * 20 * PARTS - cause * unit).abs() < 20 * PARTS * unit / 20_000);
         }
@@ -298,9 +350,18 @@ fn the_papers_streets_are_told_as_they_are() {
         page.table(&header(volumes)).iter().map(|row| halves(row) as i64).collect()
     };
     let measured = measured(&own("600 200"), &own("850 0"));
-    let told: Vec<String> =
-        [conversions(), sample(&page), measured, euclid(), alone(&page), quarter()].concat();
-    assert!(told.len() >= 60, "{} sentences are held", told.len());
+    let told: Vec<String> = [
+        conversions(),
+        sample(&page),
+        served(&page),
+        measured,
+        through(&page),
+        euclid(),
+        alone(&page),
+        quarter(),
+    ]
+    .concat();
+    assert!(told.len() >= 70, "{} sentences are held", told.len());
     told.iter().for_each(|sentence| page.says(sentence));
 }
 

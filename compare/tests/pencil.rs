@@ -1,15 +1,17 @@
-//! docs/RULES.md by hand: its tables, sentences and drawings of street A and of one platoon alone, worked out anew from the sheets.
+//! docs/RULES.md by hand: its tables, sentences and drawings of street A, of one platoon alone and of volumes, worked out
+//! anew from the sheets.
 
 use compare::bands::{clear, measure};
-use compare::decimal::seconds;
+use compare::decimal::{decimal, grouped, seconds};
 use compare::equal::{Pairs, Plan};
-use compare::moved::{papers_width, plan, platoon_rule, shortest_green, Ask};
+use compare::moved::{papers_width, plan, platoon_rule, shortest_green, Ask, MAX_PLATOON};
 use compare::named::named;
 use compare::page::{sheet, street, Page};
 use compare::paper::asked;
 use compare::pencil::{drawing, green, named_sentence, passes, starts, switches, turned, widths, SQUARE, UP};
 use compare::printed::printed;
-use compare::street::{Street, Times};
+use compare::street::{Street, Times, CYCLE};
+use compare::volumes::{fitting, largest, platoon, HEADWAY, PER_HALF};
 
 fn pencil() -> (Page, Street) {
     (Page::open("RULES.md"), street("street-a.txt"))
@@ -28,11 +30,6 @@ fn texts<const N: usize>(numbers: [i64; N]) -> Vec<String> {
 /// A plan's reply, its lines one after the other.
 fn reply(plan: &Plan, between: &str) -> String {
     printed(&Ok(plan.clone())).trim_end().replace('\n', between)
-}
-
-/// A number of four to six digits with a comma after the thousands.
-fn grouped(number: i64) -> String {
-    format!("{},{:03}", number / 1_000, number % 1_000)
 }
 
 #[test]
@@ -350,6 +347,40 @@ fn a_platoon_that_is_alone_comes_out() {
     examples
         .says(&format!("It would have all of 2B = {} and leave the other way 0, so it gets g = {g};", 2 * b));
     examples.says(&format!("the paper prints it stops at {}.", papers_width(long, sum, b, g)));
+}
+
+#[test]
+fn volumes_come_to_platoons_and_widths_to_volumes() {
+    let (page, street) = pencil();
+    let (cycle, [out, back, h]) = (street.cycle, [800, 300, 20]);
+    let (twice, g) = (2 * asked(&street, Ask::Equal).best, shortest_green(&street));
+    let plan = asked(&street, Ask::Volumes(out, back, h));
+    let ([p, q], [x, y]) = ([out, back].map(|volume| platoon(volume, cycle, h)), fitting(&plan, cycle, h));
+    assert!(p + q > twice && q < p && p <= g && plan == asked(&street, Ask::Outbound(p)));
+    assert!(out <= x && back > y && platoon(x, cycle, h) == p);
+    let [product, per_half] = [cycle * h, PER_HALF].map(grouped);
+    let exact = |volume: i64| decimal((volume * cycle * h).into(), PER_HALF.into(), 1);
+    let too_many = largest(MAX_PLATOON, CYCLE.1, HEADWAY.1) + 1;
+    let [longest, too_many] = [CYCLE.1, too_many].map(grouped);
+    for sentence in [
+        format!("`volumes {out} {back} {h}`, asks street A for {out} vehicles an hour out and {back} in,"),
+        format!(
+            "C * h is {cycle} * {h} = {product}, so the platoons are {out} * {product} / {per_half} = {}",
+            exact(out)
+        ),
+        format!("and {back} * {product} / {per_half} = {} halves, rounded up {p} and {q}.", exact(back)),
+        format!("T = {p} + {q} = {} is above 2B = {twice}, so outbound gets L = {p},", p + q),
+        format!("and inbound keeps {twice} - {p} = {}. The plan is that of `outbound {p}`.", plan.inbound),
+        format!("Into {p} halves go {per_half} * {p} / {product} = {x} vehicles an hour,"),
+        format!("whose platoon is {x} * {product} / {per_half} = {p} and fits; that of {}", x + 1),
+        format!("that of {} is {}, rounded up {},", x + 1, exact(x + 1), platoon(x + 1, cycle, h)),
+        format!("Into {} go {per_half} * {} / {product} = {y}.", plan.inbound, plan.inbound),
+        format!("The reply is `{}`, and then `{x} {y}`:", reply(&plan, "`, `")),
+        format!("on the longest cycle, {longest} ticks, at the longest headway, {} ticks,", HEADWAY.1),
+        format!("{} ticks, from {too_many} vehicles an hour on.", HEADWAY.1),
+    ] {
+        page.says(&sentence);
+    }
 }
 
 #[test]

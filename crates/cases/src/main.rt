@@ -1,6 +1,5 @@
 // A program for tests: many requests on standard input, the reply to each on standard output with an empty line after it. Requests are
 // separated by a byte 0, and each is a request line and then a sheet's bytes. A request that is not served is a `bad request`.
-use bands::Band;
 use bands::Measurement;
 use lines::Call;
 use lines::Line;
@@ -47,10 +46,11 @@ fn show_refusal(f: Refusal) {
     show(printed::answer_text(Answer::Refused(f), 0, [0u32; Street::MAX_SIGNALS]));
 }
 
-fn show_band(band: Band, end: &[u8]) {
-    noted(io::print_decimal(1, band.width as u64));
+// Writes two numbers with a space between them and an end behind.
+fn show_pair(first: u32, second: u32, end: &[u8]) {
+    noted(io::print_decimal(1, first as u64));
     put(b" ");
-    noted(io::print_decimal(1, band.start as u64));
+    noted(io::print_decimal(1, second as u64));
     put(end);
 }
 
@@ -77,9 +77,17 @@ fn measured(s: Sheet, count: usize, offsets: [u32; Line::MAX_ENTRIES])
         Measurement::Found(m) => {
             let out = m.outbound;
             let back = m.inbound;
-            show_band(out, b" ");
-            show_band(back, b"\n");
+            show_pair(out.width, out.start, b" ");
+            show_pair(back.width, back.start, b"\n");
         }
+    }
+}
+
+// The line behind a plan that was asked for by volumes: the largest volumes that its widths take.
+fn show_volumes(answer: Answer, cycle: u32, headway: u32) {
+    if let Answer::Planned(p) = answer {
+        let carried = plans::with_volumes(Answer::Planned(p), cycle, headway);
+        show_pair(carried.outbound, carried.inbound, b"\n");
     }
 }
 
@@ -105,6 +113,9 @@ fn planned(s: Sheet, request: Request, room: usize)
         &mut offsets[..k],
     );
     show(printed::answer_text(answer, n, offsets));
+    if let Request::Volumes(out, back, headway) = request {
+        show_volumes(answer, s.cycle, headway);
+    }
 }
 
 // A sheet's own bytes, written anew from its numbers into a list of some room.

@@ -6,7 +6,7 @@ use Rattle.street.specs.declared.Code.the-variants.{Speed, Offset}
 use Rattle.writer.specs.declared.Writing.the-variants as writing
 use Rattle.plans.specs.declared.Answer.the-variants as answer
 use Rattle.bands.specs.declared.Measurement.the-variants as measurement
-use Rattle.exports.specs.Flat.{flatPlan, flatMeasure, flatWriting, flatText}
+use Rattle.exports.specs.Flat.{flatPlan, flatCarried, flatMeasure, flatWriting, flatText}
 
 plan :
     flatPlan (answer.Planned (record { reference = 2; b = negsuc 99; outbound = 200; inbound = 3; rounded = 1; starts = 5; ends = 15 }))
@@ -17,6 +17,15 @@ refusal :
     flatPlan (answer.Refused (record { code = Speed; place = 3 }))
     ≡ record { code = 7; place = 3; reference = 0; b = pos 0; outbound = 0; inbound = 0; rounded = 0; starts = 0; ends = 0 }
 refusal = refl
+
+volumes :
+    flatCarried (record { answer = answer.Planned (record { reference = 2; b = negsuc 99; outbound = 200; inbound = 3; rounded = 1; starts = 5; ends = 15 }); outbound = 801; inbound = 279 })
+    ≡ record {
+      plan = record { code = 0; place = 0; reference = 2; b = negsuc 99; outbound = 200; inbound = 3; rounded = 1; starts = 5; ends = 15 };
+      «outbound_volume» = 801;
+      «inbound_volume» = 279;
+    }
+volumes = refl
 
 measure :
     flatMeasure (measurement.Found (record { outbound = record { width = 16; start = 17 }; inbound = record { width = 6; start = 7 } }))

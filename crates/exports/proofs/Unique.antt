@@ -7,19 +7,26 @@ use Rattle.street.specs.Lists.{Lists}
 use Rattle.street.proofs.Unique.{Same, same}
 use Rattle.sheet.proofs.Unique as sheet
 use Rattle.widths.specs.declared.Request.{Request}
+use Rattle.plans.proofs.Unique.{carries-unique}
 use Rattle.bands.specs.Measure.{measurementOf}
 use Rattle.printed.proofs.Unique.{prints-answer-unique}
 use Rattle.exports.specs.declared.CorbatanPlan.{CorbatanPlan}
+use Rattle.exports.specs.declared.CorbatanVolumes.{CorbatanVolumes}
 use Rattle.exports.specs.declared.CorbatanMeasure.{CorbatanMeasure}
 use Rattle.exports.specs.declared.CorbatanSheet.{CorbatanSheet}
 use Rattle.exports.specs.declared.CorbatanWriting.{CorbatanWriting}
 use Rattle.exports.specs.declared.CorbatanText.{CorbatanText}
-use Rattle.exports.specs.Flat.{flatMeasure, flatReading, flatText}
-use Rattle.exports.specs.Calls.{FlatRequested, FlatReads, FlatWrites, FlatPrints}
+use Rattle.exports.specs.Flat.{flatCarried, flatMeasure, flatReading, flatText}
+use Rattle.exports.specs.Calls.{FlatRequested, FlatCarries, FlatReads, FlatWrites, FlatPrints}
 
 -- of any request, and so of each of the four calls
 pub requested-unique : (asked : Request) (l : Lists) (entry exit exit′ : List ℕ) (r r′ : CorbatanPlan) → FlatRequested asked l entry exit r → FlatRequested asked l entry exit′ r′ → Same r r′ exit exit′
 requested-unique asked l entry exit exit′ r r′ one other = same (one .reply) (other .reply) (one .after) (other .after)
+
+pub volumes-unique : (out back h : ℕ) (l : Lists) (entry exit exit′ : List ℕ) (r r′ : CorbatanVolumes) → FlatCarries out back h l entry exit r → FlatCarries out back h l entry exit′ r′ → Same r r′ exit exit′
+volumes-unique out back h l entry exit exit′ r r′ one other =
+    let one-plan = carries-unique out back h l entry exit exit′ (one .carried) (other .carried) (one .carries) (other .carries) in
+    record { reply = one .reply ∙ ap flatCarried (one-plan .reply) ∙ sym (other .reply); after = one-plan .after }
 
 pub measure-unique : (l : Lists) (offsets : List ℕ) (r r′ : CorbatanMeasure) → r ≡ flatMeasure (measurementOf l offsets) → r′ ≡ flatMeasure (measurementOf l offsets) → r ≡ r′
 measure-unique l offsets r r′ one other = one ∙ sym other

@@ -9,19 +9,28 @@ use Rattle.sheet.specs.declared.Reading.{Reading}
 use Rattle.sheet.specs.Reading.{Reads}
 use Rattle.writer.specs.Writing.{writingOf, bytesAfter}
 use Rattle.plans.specs.Requests.{requestAnswer, requestAfter}
+use Rattle.plans.specs.Volumes.{Carries}
+use Rattle.plans.specs.declared.Carried.{Carried}
 use Rattle.widths.specs.declared.Request.{Request}
 use Rattle.printed.specs.declared.Printed.{Printed}
 use Rattle.printed.specs.Way.{PrintsAnswer}
 use Rattle.exports.specs.declared.CorbatanPlan.{CorbatanPlan}
+use Rattle.exports.specs.declared.CorbatanVolumes.{CorbatanVolumes}
 use Rattle.exports.specs.declared.CorbatanSheet.{CorbatanSheet}
 use Rattle.exports.specs.declared.CorbatanWriting.{CorbatanWriting}
 use Rattle.exports.specs.declared.CorbatanText.{CorbatanText}
-use Rattle.exports.specs.Flat.{flatPlan, flatReading, flatWriting, flatText}
+use Rattle.exports.specs.Flat.{flatPlan, flatCarried, flatReading, flatWriting, flatText}
 
 -- `corbatan_equal`, `corbatan_outbound`, `corbatan_inbound` and `corbatan_platoons`
 pub record FlatRequested (request : Request) (l : Lists) (entry exit : List ℕ) (r : CorbatanPlan) : Type 0 where
   pub reply : r ≡ flatPlan (requestAnswer request l (length entry))
   pub after : exit ≡ requestAfter request l entry
+
+-- `corbatan_volumes`: what the call with volumes answers, and what it leaves in the lent list (02, 2026-03)
+pub record FlatCarries (out back h : ℕ) (l : Lists) (entry exit : List ℕ) (r : CorbatanVolumes) : Type 0 where
+  pub carried : Carried
+  pub carries : Carries out back h l entry exit carried
+  pub reply : r ≡ flatCarried carried
 
 -- `corbatan_read`: the reading of the bytes
 pub record FlatReads (bytes : List ℕ) (r : CorbatanSheet) : Type 0 where

@@ -7,10 +7,12 @@ use Rattle.writer.specs.Writing as writer
 use Rattle.writer.specs.declared.Writing.{Writing}
 use Rattle.plans.specs.Answers as plans
 use Rattle.plans.specs.declared.Answer.{Answer}
+use Rattle.plans.specs.declared.Carried.{Carried}
 use Rattle.bands.specs.Measure as bands
 use Rattle.bands.specs.declared.Measurement.{Measurement}
 use Rattle.printed.specs.declared.Printed.{Printed}
 use Rattle.exports.specs.declared.CorbatanPlan.{CorbatanPlan}
+use Rattle.exports.specs.declared.CorbatanVolumes.{CorbatanVolumes}
 use Rattle.exports.specs.declared.CorbatanMeasure.{CorbatanMeasure}
 use Rattle.exports.specs.declared.CorbatanSheet.{CorbatanSheet}
 use Rattle.exports.specs.declared.CorbatanWriting.{CorbatanWriting}
@@ -33,6 +35,10 @@ planFields n =
 
 abbrev pub flatPlan : Answer → CorbatanPlan
 flatPlan a = planFields (plans.planNumbers a)
+
+-- the same, and the largest volumes beside it (02, 2026-03)
+abbrev pub flatCarried : Carried → CorbatanVolumes
+flatCarried c = record { plan = flatPlan (c .answer); «outbound_volume» = c .outbound; «inbound_volume» = c .inbound }
 
 -- a measure's numbers, or a refusal's
 abbrev pub measureFields : bands.BandNumbers → CorbatanMeasure

@@ -2,6 +2,7 @@
 // pointer and a count to C. C has no enums with fields, so a reply is one struct, whose code is 0 where nothing was refused.
 use bands::Measurement;
 use plans::Answer;
+use plans::Carried;
 use plans::Request;
 use printed::Printed;
 use street::Street;
@@ -13,8 +14,8 @@ ghost use Rattle.street.specs.Codes.{codeOf, placeOf};
 ghost use Rattle.street.specs.Lists.{typed};
 ghost use Rattle.widths.specs.declared.Request.the-variants.{Equal, Outbound, Inbound, Platoons};
 ghost use Rattle.bands.specs.Measure.{measurementOf};
-ghost use Rattle.exports.specs.Flat.{flatPlan, flatMeasure, flatWriting};
-ghost use Rattle.exports.specs.Calls.{FlatRequested, FlatReads, FlatWrites, FlatPrints};
+ghost use Rattle.exports.specs.Flat.{flatPlan, flatCarried, flatMeasure, flatWriting};
+ghost use Rattle.exports.specs.Calls.{FlatRequested, FlatCarries, FlatReads, FlatWrites, FlatPrints};
 
 // A plan's numbers or a refusal's, with document 01's number for the refusal. Widths, B and instants are in halves.
 #[repr(C)]
@@ -28,6 +29,14 @@ pub struct CorbatanPlan {
     pub rounded: u32,
     pub starts: u32,
     pub ends: u32,
+}
+
+// A plan or a refusal, and for each direction the largest volume that its width takes, in vehicles an hour; 0 in a refusal.
+#[repr(C)]
+pub struct CorbatanVolumes {
+    pub plan: CorbatanPlan,
+    pub outbound_volume: u32,
+    pub inbound_volume: u32,
 }
 
 // A measure's numbers or a refusal's, widths and starts in halves.
@@ -105,6 +114,18 @@ fn plan(answer: Answer) -> CorbatanPlan
                 ends: 0,
             }
         }
+    }
+}
+
+fn volumes(carried: Carried) -> CorbatanVolumes
+    ensures { λ r. ⌜ r ≡ flatCarried carried ⌝ }
+{
+    let answer = carried.answer;
+    let plan = plan(answer);
+    CorbatanVolumes {
+        plan,
+        outbound_volume: carried.outbound,
+        inbound_volume: carried.inbound,
     }
 }
 
@@ -279,6 +300,34 @@ pub extern "C" fn corbatan_platoons(
         inbound,
         offsets,
     )
+}
+
+// The plan for two volumes in vehicles an hour at a headway in ticks, with the largest volumes that its widths take.
+#[no_mangle]
+pub extern "C" fn corbatan_volumes(
+    cycle: u32,
+    reds: &[u32],
+    distances: &[u32],
+    outbound: &[u32],
+    inbound: &[u32],
+    outbound_volume: u32,
+    inbound_volume: u32,
+    headway: u32,
+    offsets: &mut [u32],
+) -> CorbatanVolumes
+    ensures { λ r. ⌜ FlatCarries «outbound_volume» «inbound_volume» headway (typed cycle (now (reds .entry)) (now (distances .entry)) (now (outbound .entry)) (now (inbound .entry))) (now (offsets .entry)) (now (offsets .exit)) r ⌝ }
+{
+    volumes(plans::volumes(
+        cycle,
+        reds,
+        distances,
+        outbound,
+        inbound,
+        outbound_volume,
+        inbound_volume,
+        headway,
+        offsets,
+    ))
 }
 
 // The measure of given offsets, which are an input here and not lent.

@@ -273,6 +273,15 @@ fn plan_asked(case: &[u8]) -> Asked
         let numbers = rest.numbers;
         return with_call(rest, Call::Plan(Request::Platoons(numbers[0], numbers[1])));
     }
+    let volumes = past(case, 0, b"volumes");
+    if volumes > 0 {
+        let rest = line_from(case, volumes, 3, 3, Lent::Offsets);
+        let numbers = rest.numbers;
+        return with_call(
+            rest,
+            Call::Plan(Request::Volumes(numbers[0], numbers[1], numbers[2])),
+        );
+    }
     with_call(line_from(case, 0, 0, 0, Lent::Nothing), Call::Bad)
 }
 

@@ -1,7 +1,7 @@
 -- From the street that the search worked on to the typed lists: the two agree at every signal, so a request's check, its shift, the plan's numbers and its offsets are those
--- of the lists; and what a call answers and leaves behind, for each refusal and for a plan. No shift is wider than the cycle. Assumes nothing.
+-- of the lists; and what a call answers and leaves behind, for each refusal, for a plan and for volumes. No shift is wider than the cycle. Assumes nothing.
 use Prim.Native.Nat.{ℕ, _+_, _≤_, _<_}
-use mathlib.Core.Path.{_≡_, sym, ap, ap₂, _∙_}
+use mathlib.Core.Path.{_≡_, refl, sym, ap, ap₂, subst, _∙_}
 use mathlib.Core.List.{List, [], _∷_, _++_}
 use native.Mathlib.Omega.{arith}
 use lib.ListN.{length, drop}
@@ -21,14 +21,19 @@ use Rattle.street.proofs.Passed.{in-limits}
 use Rattle.street.proofs.Sound.{sound, street-agrees}
 use Rattle.widths.specs.Moved.{shiftOf}
 use Rattle.widths.specs.Checks.{requestCheck}
+use Rattle.traffic.specs.Volumes.{Largest}
 use Rattle.widths.specs.declared.Request.{Request}
+use Rattle.widths.specs.declared.Request.the-variants.{Volumes}
 use Rattle.widths.specs.declared.Shift.{Shift}
 use Rattle.widths.proofs.WidthLaws.{check-agree, shift-agree, outbound-agree, inbound-agree}
 use Rattle.offsets.specs.Moved.{movedOffset}
 use Rattle.offsets.proofs.MovedLaws.{moved-agree}
 use Rattle.plans.specs.Answers.{answered}
 use Rattle.plans.specs.Requests.{movedPlan, requestChecks, Requested}
+use Rattle.plans.specs.Volumes.{LargestFor, Carries}
 use Rattle.plans.specs.declared.Plan.{Plan}
+use Rattle.plans.specs.declared.Carried.{Carried}
+use Rattle.plans.specs.declared.Answer.{Answer}
 use Rattle.plans.specs.declared.Answer.the-variants as answer
 
 -- a plan goes by the signals alone
@@ -109,4 +114,22 @@ requested-planned asked l before after s shift p passed is fits moves wrote plan
           ∙ ap (λ xs. xs ++ drop (signals l) before) (list-ext (signals l) (movedOffset mine z) (movedOffset mine (timed l)) (moved-agree z (timed l) agree some mine))
           ∙ ap (λ (k : ℕ). entries ++ drop k before) (sym (length-listBelow (signals l) (movedOffset mine (timed l))))
           ∙ sym (ap (λ v. written v entries before) all);
+    }
+
+-- the volumes beside an answer
+pub largest-planned :
+    (C h out back : ℕ) (a : Answer) (p : Plan) → a ≡ answer.Planned p → Largest C h (p .outbound) out → Largest C h (p .inbound) back → (answer.Planned p ≡ a) × LargestFor C h a out back
+largest-planned C h out back a p is there home = (sym is, subst (λ x. LargestFor C h x out back) (sym is) (there, home))
+
+pub largest-refused : (C h : ℕ) (a : Answer) (f : Refusal) → a ≡ answer.Refused f → (answer.Refused f ≡ a) × LargestFor C h a 0 0
+largest-refused C h a f is = (sym is, subst (λ x. LargestFor C h x 0 0) (sym is) (refl, refl))
+
+-- a call with volumes: the answer is the request's, and the volumes are those beside it
+pub carries-all :
+    (out back h : ℕ) (l : Lists) (before after : List ℕ) (a : Answer) (r : Carried) → Requested (Volumes out back h) l before after a → r .answer ≡ a →
+    LargestFor (l .cycle) h a (r .outbound) (r .inbound) → Carries out back h l before after r
+carries-all out back h l before after a r call is largest =
+    record {
+      plan = subst (Requested (Volumes out back h) l before after) (sym is) call;
+      volumes = subst (λ x. LargestFor (l .cycle) h x (r .outbound) (r .inbound)) (sym is) largest;
     }

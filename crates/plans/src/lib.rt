@@ -13,6 +13,7 @@ ghost use Rattle.street.specs.Lists.{typed};
 ghost use Rattle.street.specs.Steps.{maxHalves, timedStreet};
 ghost use Rattle.offsets.specs.Moved.{movedOffset};
 ghost use Rattle.plans.specs.Requests.{movedPlan, Requested};
+ghost use Rattle.plans.specs.Volumes.{LargestFor, Carries};
 ghost use Rattle.widths.specs.Steps.{Raised, shiftWidth};
 
 // A plan's numbers. The reference c is counted from 1. B and the widths are in halves, and B can be negative. `rounded` is m,
@@ -32,6 +33,14 @@ pub struct Plan {
 pub enum Answer {
     Planned(Plan),
     Refused(Refusal),
+}
+
+// An answer, and beside a plan for each direction the largest volume, in vehicles an hour, whose platoon fits the direction's width; 0
+// and 0 beside a refusal (02, 2026-03).
+pub struct Carried {
+    pub answer: Answer,
+    pub outbound: u32,
+    pub inbound: u32,
 }
 
 // A raised width as the signed number that it stands for.
@@ -203,4 +212,49 @@ pub fn platoons(
         inbound,
         offsets,
     )
+}
+
+// An answer with the largest volumes that its widths take, at a cycle and a headway.
+pub fn with_volumes(answer: Answer, cycle: u32, headway: u32) -> Carried
+    ensures { λ r. ⌜ (r .answer ≡ answer) × LargestFor cycle headway answer (r .outbound) (r .inbound) ⌝ }
+{
+    match answer {
+        Answer::Planned(p) => Carried {
+            answer: Answer::Planned(p),
+            outbound: traffic::largest(cycle, headway, p.outbound),
+            inbound: traffic::largest(cycle, headway, p.inbound),
+        },
+        Answer::Refused(f) => Carried {
+            answer: Answer::Refused(f),
+            outbound: 0,
+            inbound: 0,
+        },
+    }
+}
+
+// The plan for volumes in vehicles an hour, whose platoons go by a headway in ticks, with the largest volumes that its widths take (02,
+// 2026-03).
+pub fn volumes(
+    cycle: u32,
+    reds: &[u32],
+    distances: &[u32],
+    outbound: &[u32],
+    inbound: &[u32],
+    outbound_volume: u32,
+    inbound_volume: u32,
+    headway: u32,
+    offsets: &mut [u32],
+) -> Carried
+    ensures { λ r. ⌜ Carries «outbound_volume» «inbound_volume» headway (typed cycle (now (reds .entry)) (now (distances .entry)) (now (outbound .entry)) (now (inbound .entry))) (now (offsets .entry)) (now (offsets .exit)) r ⌝ }
+{
+    let answer = plan_for(
+        Request::Volumes(outbound_volume, inbound_volume, headway),
+        cycle,
+        reds,
+        distances,
+        outbound,
+        inbound,
+        offsets,
+    );
+    with_volumes(answer, cycle, headway)
 }

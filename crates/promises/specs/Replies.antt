@@ -1,6 +1,6 @@
 -- What is promised of a call's reply: of the numbers in every reply with code 0 that the call's contract allows, and of the offsets that the call leaves in the lent list. One notion says what a
--- plan keeps, and it is promised at rounded times with nothing lost and at exact times with m halves lost (demand 3); the equal plan is the published method's own, and platoons that differ leave
--- a side 0 only beside g (demand 2).
+-- plan keeps, and it is promised at rounded times with nothing lost and at exact times with m halves lost (demand 3); the equal plan is the published method's own, platoons that differ leave a side 0
+-- only beside g, and no volume beyond the one that a reply names fits its band (demand 2).
 use Prim.Native.Nat.{ℕ, _+_, _-_, _*_, _≤_, _<_, min}
 use mathlib.Core.Path.{_≡_}
 use mathlib.Core.Bool.{true}
@@ -11,19 +11,23 @@ use Rattle.circle.specs.Man.{man}
 use Rattle.circle.specs.Method.{B, reference, offset, equalWidth, redEnd, redStart}
 use Rattle.circle.specs.Bands.{Way, clear, width}
 use Rattle.circle.specs.Moved.{g}
+use Rattle.street.specs.Limits.{maxVolume}
 use Rattle.street.specs.Lists.{Lists, signals}
 use Rattle.street.specs.Checks.{planChecks}
 use Rattle.street.specs.Streets.{timed, m}
 use Rattle.street.specs.declared.Verdict.the-variants.{Passed}
-use Rattle.widths.specs.Moved.{shiftOf}
+use Rattle.traffic.specs.Volumes.{platoonOf}
+use Rattle.widths.specs.Moved.{platoonShift, shiftOf}
 use Rattle.widths.specs.declared.Request.{Request}
-use Rattle.widths.specs.declared.Request.the-variants.{Equal, Platoons}
+use Rattle.widths.specs.declared.Request.the-variants.{Equal}
 use Rattle.widths.specs.declared.Shift.{Shift}
 use Rattle.widths.specs.declared.Shift.the-variants.{Unmoved, Outbound, Inbound}
 use Rattle.plans.specs.Answers.{planVerdict, planNumbers}
 use Rattle.plans.specs.Requests.{Requested}
+use Rattle.plans.specs.Volumes.{Carries}
 use Rattle.plans.specs.declared.Answer.{Answer}
 use Rattle.plans.specs.declared.Plan.{Plan}
+use Rattle.plans.specs.declared.Carried.{Carried}
 use Rattle.promises.specs.Exact.{Fine, Ways, roundedWays, exactWays}
 
 -- how long after the start of a named band the departure x comes by at c, round the cycle: the band starts there so many halves before a named instant (01, 'Moving width': inside is by
@@ -94,9 +98,20 @@ EqualIsMethod =
     × (p .ends ≡ redStart s c (offset s c c))
     × ((j : ℕ) → j < signals l → getD exit j 0 ≡ offset s c j))
 
--- 4. Platoons that differ leave the lesser side 0 only where the larger side has g (02, 2026-02)
+-- 4. Where the platoon rule decides, for platoons or for volumes, platoons that differ leave the lesser side 0 only where the larger side has g (02, 2026-02 and 2026-03)
 abbrev pub OneSided : Type 0
 OneSided =
-    OfReplies λ request l exit p. (P Q : ℕ) → request ≡ Platoons P Q →
+    OfReplies λ request l exit p. (P Q : ℕ) → shiftOf request (timed l) ≡ platoonShift (timed l) P Q →
     (Q < P → p .inbound ≡ 0 → pos (p .outbound) ≡ g (timed l))
     × (P < Q → p .outbound ≡ 0 → pos (p .inbound) ≡ g (timed l))
+
+-- of all volumes from 0 to 10,000 those up to this one have a platoon that fits the width w, and no others
+abbrev pub FitsUpTo : ℕ → ℕ → ℕ → ℕ → Type 0
+FitsUpTo C h w most =
+    (volume : ℕ) → volume ≤ maxVolume → (volume ≤ most → platoonOf C h volume ≤ w) × (platoonOf C h volume ≤ w → volume ≤ most)
+
+-- 5. The volumes beside a plan are the largest that its bands take, by the widths that the same reply has (02, 2026-03)
+abbrev pub LargestVolumes : Type 0
+LargestVolumes =
+    (out back h : ℕ) (l : Lists) (entry exit : List ℕ) (r : Carried) → Carries out back h l entry exit r → planNumbers (r .answer) .code ≡ 0 →
+    FitsUpTo (l .cycle) h (planNumbers (r .answer) .plan .outbound) (r .outbound) × FitsUpTo (l .cycle) h (planNumbers (r .answer) .plan .inbound) (r .inbound)

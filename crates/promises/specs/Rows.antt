@@ -1,4 +1,4 @@
--- Document 01's rows 1 to 13, its street A and its examples of rounding, and a school street for 02, 2026-02, as one table, with what is said of each row: the answer of the row's call and the
+-- Document 01's rows 1 to 13, its street A and its examples of rounding, a school street for 02, 2026-02, and volumes for 2026-03, as one table, with what is said of each row: the answer of the row's call and the
 -- list that it leaves, and where a row names an exact best, that some offsets attain it and none exceed it. Each list starts as 7, 7, 7, so that an entry that is not written shows.
 use Prim.Native.Nat.{ℕ}
 use mathlib.Core.Path.{_≡_}
@@ -8,9 +8,9 @@ use lib.ListN.{length}
 use Rattle.circle.specs.Bands.{width}
 use Rattle.street.specs.Lists.{Lists}
 use Rattle.street.specs.declared.Code.{Code}
-use Rattle.street.specs.declared.Code.the-variants.{Platoon, Width}
+use Rattle.street.specs.declared.Code.the-variants.{Platoon, Width, Volume}
 use Rattle.widths.specs.declared.Request.{Request}
-use Rattle.widths.specs.declared.Request.the-variants.{Equal, Outbound, Inbound, Platoons}
+use Rattle.widths.specs.declared.Request.the-variants.{Equal, Outbound, Inbound, Platoons, Volumes}
 use Rattle.plans.specs.declared.Answer.{Answer}
 use Rattle.plans.specs.declared.Answer.the-variants.{Planned, Refused}
 use Rattle.plans.specs.Requests.{requestAnswer, requestAfter}
@@ -134,5 +134,23 @@ platoon-rows =
     ∷ row streetA (Platoons 100000 100001) (refusal Platoon 2) lent
     ∷ []
 
+-- one signal on the longest cycle, 10 minutes
+unfoldable pub longCycle : Lists
+longCycle = record { cycle = 6000; reds = 3000 ∷ []; distances = 0 ∷ []; outbound = []; inbound = [] }
+
+-- volumes (02, 2026-03): on street A nine vehicles an hour, 2 s apart, are a half. Platoons of 89 and 34, row 11's own, two that come to the same length, and one too long; and the limits in their order
+unfoldable pub volume-rows : List Row
+volume-rows =
+    row streetA (Volumes 800 300 20) (plan 1 (pos 60) 89 31 0 11 131) (171 ∷ 10 ∷ 7 ∷ [])
+    ∷ row streetA (Volumes 270 90 20) (plan 1 (pos 60) 90 30 0 10 130) (170 ∷ 10 ∷ 7 ∷ [])
+    ∷ row streetA (Volumes 265 270 20) (plan 1 (pos 60) 60 60 0 40 160) (0 ∷ 10 ∷ 7 ∷ [])
+    ∷ row longCycle (Volumes 3000 2999 100) (plan 1 (pos 6000) 6000 6000 0 3000 9000) (0 ∷ 7 ∷ 7 ∷ [])
+    ∷ row longCycle (Volumes 3001 0 100) (refusal Platoon 1) lent
+    ∷ row longCycle (Volumes 3001 10001 0) (refusal Volume 2) lent
+    ∷ row streetA (Volumes 10001 10001 0) (refusal Volume 1) lent
+    ∷ row streetA (Volumes 0 0 0) (refusal Volume 3) lent
+    ∷ row streetA (Volumes 0 0 101) (refusal Volume 3) lent
+    ∷ []
+
 unfoldable pub rows : List Row
-rows = equal-rows ++ (rounding-rows ++ (width-rows ++ platoon-rows))
+rows = equal-rows ++ (rounding-rows ++ (width-rows ++ (platoon-rows ++ volume-rows)))

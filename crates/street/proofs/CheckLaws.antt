@@ -9,9 +9,9 @@ use borrow.Author.Tests.{lt-ltb, le-ltb, le-leb, lt-leb, leb-true, eqb-true}
 use Rattle.circle.proofs.Numbers.{cond-left, cond-right}
 use Rattle.road.specs.Limits.{minSignals, maxSignals}
 use Rattle.street.specs.Limits.{minCycle, maxCycle}
-use Rattle.street.specs.Checks.{within, unless, orNext, countCheck, roomCheck, cycleCheck}
+use Rattle.street.specs.Checks.{within, unlessAt, unless, orNext, countCheck, roomCheck, cycleCheck}
 use Rattle.street.specs.declared.Code.{Code}
-use Rattle.street.specs.declared.Code.the-variants.{Sheet, Count, Room, Cycle, Red, Distance, Speed, Platoon, Width, Offset}
+use Rattle.street.specs.declared.Code.the-variants.{Sheet, Count, Room, Cycle, Red, Distance, Speed, Platoon, Width, Offset, Volume}
 use Rattle.street.specs.Codes.{codeNumber}
 use Rattle.street.specs.declared.Verdict.{Verdict}
 use Rattle.street.specs.declared.Verdict.the-variants.{Passed, Refused}
@@ -28,9 +28,12 @@ pub below-one : (i : ℕ) → i < 1 → i ≤ 0
 below-one i h = omega arith
 
 -- a check that passed tested true
+pub passes-at : (place : ℕ) (t : Bool) (code : Code) → unlessAt place t code ≡ Passed → t ≡ true
+passes-at place true code e = refl
+passes-at place false code e = let z : _≡_ {A = ℕ} 0 1 = cc in absurd (omega arith)
+
 pub passes : (t : Bool) (code : Code) → unless t code ≡ Passed → t ≡ true
-passes true code e = refl
-passes false code e = let z : _≡_ {A = ℕ} 0 1 = cc in absurd (omega arith)
+passes = passes-at 0
 
 pub record Within (least most x : ℕ) : Type 0 where
   pub low : least ≤ x
@@ -88,3 +91,4 @@ code-some Speed = omega arith
 code-some Platoon = omega arith
 code-some Width = omega arith
 code-some Offset = omega arith
+code-some Volume = omega arith

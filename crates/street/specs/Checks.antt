@@ -17,9 +17,13 @@ use Rattle.street.specs.declared.Verdict.the-variants.{Passed, Refused}
 abbrev pub refuse : Code → ℕ → Verdict
 refuse code place = Refused (record { code = code; place = place })
 
--- a check that has no place of its own: it passes, or refuses at place 0
+-- a check of one test: it passes, or refuses at its place
+abbrev pub unlessAt : ℕ → Bool → Code → Verdict
+unlessAt place ok code = cond ok Passed (refuse code place)
+
+-- one that has no place of its own refuses at place 0
 abbrev pub unless : Bool → Code → Verdict
-unless ok code = cond ok Passed (refuse code 0)
+unless = unlessAt 0
 
 -- a check of a list: it refuses at the first faulty entry, counted from 1
 abbrev pub faultAt : Code → Found → Verdict

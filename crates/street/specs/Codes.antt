@@ -1,11 +1,11 @@
 -- A verdict in numbers (01, 'Codes, in order of checking'): every call's reply has these two first.
 use Prim.Native.Nat.{ℕ}
 use Rattle.street.specs.declared.Code.{Code}
-use Rattle.street.specs.declared.Code.the-variants.{Sheet, Count, Room, Cycle, Red, Distance, Speed, Platoon, Width, Offset}
+use Rattle.street.specs.declared.Code.the-variants.{Sheet, Count, Room, Cycle, Red, Distance, Speed, Platoon, Width, Offset, Volume}
 use Rattle.street.specs.declared.Verdict.{Verdict}
 use Rattle.street.specs.declared.Verdict.the-variants.{Passed, Refused}
 
--- the number that document 01 gives each refusal
+-- the number that documents 01 and 02 give each refusal
 abbrev pub codeNumber : Code → ℕ
 codeNumber Sheet = 1
 codeNumber Count = 2
@@ -17,6 +17,7 @@ codeNumber Speed = 7
 codeNumber Platoon = 8
 codeNumber Width = 9
 codeNumber Offset = 10
+codeNumber Volume = 11
 
 -- the code of a verdict: its refusal's number, 0 where every check passed
 abbrev pub codeOf : Verdict → ℕ

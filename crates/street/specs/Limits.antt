@@ -15,3 +15,14 @@ minRed = 1
 -- a platoon, in halves; the least is 0
 abbrev pub maxPlatoon : ℕ
 maxPlatoon = 100000
+
+-- a volume, in vehicles an hour; the least is 0 (02, 2026-03)
+abbrev pub maxVolume : ℕ
+maxVolume = 10000
+
+-- a headway, in ticks (02, 2026-03)
+abbrev pub minHeadway : ℕ
+minHeadway = 1
+
+abbrev pub maxHeadway : ℕ
+maxHeadway = 100

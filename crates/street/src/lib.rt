@@ -8,13 +8,13 @@ ghost use Prim.Native.Nat.{_≤_};
 ghost use lib.ListN.{length, getD};
 ghost use Rattle.road.specs.Limits.{minSignals, maxSignals, maxDistance, minSpeed, maxSpeed};
 ghost use Rattle.road.specs.Steps.{Zeros, padded};
-ghost use Rattle.street.specs.Limits.{minCycle, maxCycle, minRed, maxPlatoon};
+ghost use Rattle.street.specs.Limits.{minCycle, maxCycle, minRed, maxPlatoon, maxVolume, minHeadway, maxHeadway};
 ghost use Rattle.street.specs.Lists.{typed};
 ghost use Rattle.street.specs.Codes.{codeNumber};
 ghost use Rattle.street.specs.Checks.{refuse};
 ghost use Rattle.street.specs.Steps.{surveyed};
 
-// The refusals of document 01, in the order of its table; `code_number` answers the number of each.
+// The refusals of document 01, in the order of its table, and then those of 02; `code_number` answers the number of each.
 pub enum Code {
     Sheet,
     Count,
@@ -26,6 +26,7 @@ pub enum Code {
     Platoon,
     Width,
     Offset,
+    Volume,
 }
 
 // A numbered refusal: what was wrong, and at which signal or link, counted from 1; 0 where the code has no place.
@@ -55,6 +56,7 @@ pub fn code_number(code: Code) -> u32
         Code::Platoon => 8,
         Code::Width => 9,
         Code::Offset => 10,
+        Code::Volume => 11,
     }
 }
 
@@ -122,6 +124,13 @@ impl Street {
 
     pub const MAX_PLATOON: u32 = 100_000;
 
+    // And those of 02, 2026-03: a volume in vehicles an hour, a headway in ticks.
+    pub const MAX_VOLUME: u32 = 10_000;
+
+    pub const MIN_HEADWAY: u32 = 1;
+
+    pub const MAX_HEADWAY: u32 = 100;
+
     // The constructor: every check of a plan over a lent list of `lent` entries, in document 01's order, and then the street. Its
     // arrays are filled where they stand and put together once, whatever the verdict: a refusal leaves every number 0.
     pub fn new(
@@ -180,4 +189,9 @@ fn limits()
       fast ← ⟦Street::MAX_SPEED⟧ .entry
       long ← ⟦Street::MAX_PLATOON⟧ .entry
       ⌜ (far ≡ maxDistance) × (slow ≡ minSpeed) × (fast ≡ maxSpeed) × (long ≡ maxPlatoon) ⌝ }
+    ensures traffic { λ _. do
+      most ← ⟦Street::MAX_VOLUME⟧ .entry
+      close ← ⟦Street::MIN_HEADWAY⟧ .entry
+      apart ← ⟦Street::MAX_HEADWAY⟧ .entry
+      ⌜ (most ≡ maxVolume) × (close ≡ minHeadway) × (apart ≡ maxHeadway) ⌝ }
 {}

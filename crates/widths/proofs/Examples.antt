@@ -7,9 +7,11 @@ use Rattle.circle.specs.Moved.{g, inRange, otherWidth, foundWidth, platoonWidth
 use Rattle.circle.proofs.Examples.Method.{three}
 use Rattle.circle.proofs.Examples.Moved.{school}
 use Rattle.street.specs.Codes.{codeOf, placeOf}
+use Rattle.street.specs.declared.Verdict.{Verdict}
 use Rattle.widths.specs.Moved.{platoonShift, shiftOf, outboundWidth, inboundWidth}
 use Rattle.widths.specs.Steps.{portionOf}
-use Rattle.widths.specs.Checks.{platoonCheck, widthCheck, requestCheck}
+use Rattle.traffic.specs.Checks.{volumeCheck}
+use Rattle.widths.specs.Checks.{platoonCheck, trafficCheck, widthCheck, requestCheck}
 use Rattle.widths.specs.declared.Request.{Request}
 use Rattle.widths.specs.declared.Request.the-variants as request
 use Rattle.widths.specs.declared.Shift.{Shift}
@@ -24,6 +26,15 @@ ranges = refl
 lengths : placeOf (platoonCheck 100000 100000) ∷ placeOf (platoonCheck 100001 100001) ∷ placeOf (platoonCheck 0 100001) ∷ [] ≡ 0 ∷ 1 ∷ 2 ∷ []
 unfolding platoonCheck
 lengths = refl
+
+-- on a cycle of 6,000 ticks, with vehicles 10 s apart: volumes are judged before the platoons that they come to, and 3,000 vehicles an hour are the most; on one of 10 ticks 10,000 pass
+judged : map (λ (v : Verdict). codeOf v) (trafficCheck 6000 3000 3000 100 ∷ trafficCheck 6000 3001 0 100 ∷ trafficCheck 6000 3001 10001 100 ∷ trafficCheck 6000 3001 0 101 ∷ trafficCheck 10 10000 10000 100 ∷ []) ≡ 0 ∷ 8 ∷ 11 ∷ 11 ∷ 0 ∷ []
+unfolding trafficCheck volumeCheck platoonCheck
+judged = refl
+
+judged-at : map (λ (v : Verdict). placeOf v) (trafficCheck 6000 3001 3001 100 ∷ trafficCheck 6000 0 3001 100 ∷ trafficCheck 6000 3001 10001 100 ∷ trafficCheck 6000 3001 0 101 ∷ []) ≡ 1 ∷ 2 ∷ 2 ∷ 3 ∷ []
+unfolding trafficCheck volumeCheck platoonCheck
+judged-at = refl
 
 -- a width is taken as it is
 asked : map (λ (r : Request). shiftOf r three) (request.Equal ∷ request.Outbound 6 ∷ request.Inbound 7 ∷ []) ≡ Unmoved ∷ Outbound 6 ∷ Inbound 7 ∷ []
@@ -42,6 +53,11 @@ favoured = refl
 one-sided : map (λ (r : Request). shiftOf r school) (request.Platoons 50 0 ∷ request.Platoons 0 50 ∷ request.Platoons 199 1 ∷ []) ≡ Outbound 400 ∷ Inbound 400 ∷ Outbound 199 ∷ []
 unfolding platoonShift platoonWidth foundWidth otherWidth g B greatestBelow b leastBelow pairWidth u
 one-sided = refl
+
+-- volumes are the platoons that they come to: at a cycle of 600 ticks and a headway of 30 as many halves as vehicles, so that 50 and 0 are those of the school street; at a headway of 1 a single half each way
+volumes : map (λ (r : Request). shiftOf r school) (request.Volumes 50 0 30 ∷ request.Volumes 0 50 30 ∷ request.Volumes 199 1 30 ∷ request.Volumes 1 30 1 ∷ []) ≡ Outbound 400 ∷ Inbound 400 ∷ Outbound 199 ∷ Unmoved ∷ []
+unfolding platoonShift platoonWidth foundWidth otherWidth g B greatestBelow b leastBelow pairWidth u
+volumes = refl
 
 -- what each direction then has: B, or the width, or what it leaves of 2B
 out : map (λ (k : Shift). outboundWidth k three) (Unmoved ∷ Outbound 8 ∷ Inbound 7 ∷ []) ≡ 5 ∷ 8 ∷ 3 ∷ []

@@ -1,7 +1,7 @@
 -- Laws of widths and requests: the search's B is circle's, raised; no width that a request comes to is above g; the platoon rule by the two lengths; and check, shift and
 -- widths go by the signals alone. Assumes nothing.
 use Prim.Native.Nat.{ℕ, _-_, _*_, _≤_, _<_, _^_, _+_}
-use mathlib.Core.Path.{_≡_, sym, ap, refl, ap₂}
+use mathlib.Core.Path.{_≡_, sym, ap, refl, ap₂, _∙_}
 use mathlib.Core.Bool.{Bool, true, false, cond}
 use native.Mathlib.Omega.{arith}
 use native.Mathlib.Nat.{mul-le-mul}
@@ -12,15 +12,19 @@ use Rattle.circle.specs.Method.{Timed, halves}
 use Rattle.circle.specs.Moved.{g, inRange, platoonWidth}
 use Rattle.circle.proofs.Formulas.{Fit, B⁺, B⁺-is, g-is, green-le, asked, asked-green, Agree, equalWidth-agree, platoon-le, inRange-agree, otherWidth-agree, platoonWidth-agree}
 use Rattle.street.specs.Limits.{maxCycle, maxPlatoon}
-use Rattle.street.specs.Checks.{unless, refuse, orNext}
+use Rattle.street.specs.Checks.{unless, orNext}
 use Rattle.street.specs.Steps.{maxHalves, Sound}
 use Rattle.street.specs.declared.Code.the-variants.{Width, Platoon}
+use Rattle.street.specs.declared.Verdict.{Verdict}
 use Rattle.street.specs.declared.Verdict.the-variants.{Passed}
-use Rattle.street.proofs.CheckLaws.{passes}
+use Rattle.street.proofs.CheckLaws.{passes-at, passes, last-check}
 use Rattle.street.proofs.Passed.{first-passed, rest-passed}
 use Rattle.street.specs.declared.Verdict.the-variants as verdict
 use Rattle.search.proofs.Leading.{fit-sound}
-use Rattle.widths.specs.Checks.{widthCheck, lengthCheck, platoonCheck, requestCheck}
+use Rattle.traffic.specs.Volumes.{platoonOf}
+use Rattle.traffic.specs.Checks.{volumeCheck}
+use Rattle.traffic.proofs.VolumeLaws.{Judged, judged}
+use Rattle.widths.specs.Checks.{widthCheck, lengthCheck, platoonCheck, trafficCheck, requestCheck}
 use Rattle.widths.specs.Moved.{platoonShift, shiftOf, outboundWidth, inboundWidth}
 use Rattle.widths.specs.Steps.{Raised, shiftWidth}
 use Rattle.widths.specs.declared.Request.{Request}
@@ -55,17 +59,28 @@ widest-le s fit = omega (arith, green-le s fit, ap orZero (g-is s fit))
 
 -- platoons that passed are short enough
 short-enough : (place P : ℕ) → lengthCheck place P ≡ verdict.Passed → P ≤ maxPlatoon
-short-enough place P e = leb-true P maxPlatoon (go (leb P maxPlatoon) e)
-  where
-    go : (t : Bool) → cond t verdict.Passed (refuse Platoon place) ≡ verdict.Passed → t ≡ true
-    go true q = refl
-    go false q = let z : _≡_ {A = ℕ} 0 1 = cc in absurd (omega arith)
+short-enough place P e = leb-true P maxPlatoon (passes-at place (leb P maxPlatoon) Platoon e)
 
 pub platoons-short : (P Q : ℕ) → platoonCheck P Q ≡ verdict.Passed → (P ≤ maxPlatoon) × (Q ≤ maxPlatoon)
 unfolding platoonCheck
 platoons-short P Q e =
     let rest = rest-passed (lengthCheck 1 P) (orNext (lengthCheck 2 Q) verdict.Passed) e in
     (short-enough 1 P (first-passed (lengthCheck 1 P) (orNext (lengthCheck 2 Q) verdict.Passed) e), short-enough 2 Q (first-passed (lengthCheck 2 Q) verdict.Passed rest))
+
+-- volumes that passed are small enough, and so is their headway; their platoons are short enough
+pub traffic-passed : (C out back h : ℕ) → trafficCheck C out back h ≡ verdict.Passed → Judged out back h × (platoonOf C h out ≤ maxPlatoon) × (platoonOf C h back ≤ maxPlatoon)
+unfolding trafficCheck
+traffic-passed C out back h e =
+    let rest = rest-passed (volumeCheck out back h) _ e in
+    let (there, home) = platoons-short (platoonOf C h out) (platoonOf C h back) (first-passed (platoonCheck (platoonOf C h out) (platoonOf C h back)) _ rest) in
+    (judged out back h (first-passed (volumeCheck out back h) _ e), there, home)
+
+-- the volumes' verdict, and where they passed that of their platoons
+pub traffic-is : (C out back h : ℕ) (v : Verdict) → volumeCheck out back h ≡ v → orNext v (platoonCheck (platoonOf C h out) (platoonOf C h back)) ≡ trafficCheck C out back h
+unfolding trafficCheck
+traffic-is C out back h v e =
+    let long = platoonCheck (platoonOf C h out) (platoonOf C h back) in
+    ap (λ x. orNext x long) (sym e) ∙ ap (orNext (volumeCheck out back h)) (sym (last-check long))
 
 -- the platoon rule by the two lengths
 pub favours-neither : (s : Timed) (P Q : ℕ) → P ≡ Q → Unmoved ≡ platoonShift s P Q
@@ -99,6 +114,9 @@ shift-small s (request.Inbound w) ok e =
 shift-small s (request.Platoons P Q) ok e =
     let fit = fit-sound s ok in
     omega (arith, platoon-shift-le s P Q, widest-le s fit, ok .longest)
+shift-small s (request.Volumes out back h) ok e =
+    let fit = fit-sound s ok in
+    omega (arith, platoon-shift-le s (platoonOf (s .cycle) h out) (platoonOf (s .cycle) h back), widest-le s fit, ok .longest)
 
 -- a request's check, shift, offsets and plan go by the signals alone
 module _ (s z : Timed) (agree : Agree s z) where
@@ -108,16 +126,23 @@ module _ (s z : Timed) (agree : Agree s z) where
   check-agree (request.Outbound w) = ap (λ t. unless t Width) (inRange-agree s z agree w)
   check-agree (request.Inbound w) = ap (λ t. unless t Width) (inRange-agree s z agree w)
   check-agree (request.Platoons P Q) = refl
+  check-agree (request.Volumes out back h) = ap (λ (C : ℕ). trafficCheck C out back h) (agree .cycle)
 
-  pub shift-agree : (asked : Request) → shiftOf asked s ≡ shiftOf asked z
+  platoons-agree : (P Q : ℕ) → platoonShift s P Q ≡ platoonShift z P Q
   unfolding platoonShift
-  shift-agree request.Equal = refl
-  shift-agree (request.Outbound w) = refl
-  shift-agree (request.Inbound w) = refl
-  shift-agree (request.Platoons P Q) =
+  platoons-agree P Q =
       ap₂ (λ (x y : ℕ). cond (eqb P Q) Unmoved (cond (ltb Q P) (Outbound x) (Inbound y)))
       (platoonWidth-agree s z agree P (P + Q))
       (platoonWidth-agree s z agree Q (P + Q))
+
+  pub shift-agree : (asked : Request) → shiftOf asked s ≡ shiftOf asked z
+  shift-agree request.Equal = refl
+  shift-agree (request.Outbound w) = refl
+  shift-agree (request.Inbound w) = refl
+  shift-agree (request.Platoons P Q) = platoons-agree P Q
+  shift-agree (request.Volumes out back h) =
+      platoons-agree (platoonOf (s .cycle) h out) (platoonOf (s .cycle) h back)
+      ∙ ap (λ (C : ℕ). platoonShift z (platoonOf C h out) (platoonOf C h back)) (agree .cycle)
 
   pub outbound-agree : (shift : Shift) → outboundWidth shift s ≡ outboundWidth shift z
   outbound-agree Unmoved = equalWidth-agree s z agree

@@ -7,19 +7,20 @@ ghost use mathlib.Core.Path.{_≡_};
 ghost use Prim.Native.Nat.{_*_, _≤_, _<_, _^_};
 ghost use lib.IntN.{pos};
 ghost use Rattle.circle.specs.Moved.{g, otherWidth, foundWidth, platoonWidth};
-ghost use Rattle.street.specs.Limits.{maxPlatoon};
+ghost use Rattle.street.specs.Limits.{maxCycle, maxPlatoon};
 ghost use Rattle.street.specs.Steps.{maxHalves, timedStreet, Sound};
 ghost use Rattle.widths.specs.Moved.{platoonShift, shiftOf};
 ghost use Rattle.widths.specs.Steps.{Raised, portionOf, shiftWidth, widthsOf};
-ghost use Rattle.widths.specs.Checks.{platoonCheck, widthCheck, requestCheck};
+ghost use Rattle.widths.specs.Checks.{platoonCheck, trafficCheck, widthCheck, requestCheck};
 
-// What a caller asks for: the equal plan, a width for one direction, or widths by the platoons' lengths, outbound and then inbound. All
-// are in halves.
+// What a caller asks for: the equal plan, a width for one direction, widths by the platoons' lengths, outbound and then inbound, or by
+// their volumes and a headway (02, 2026-03). Widths and lengths are in halves, volumes in vehicles an hour, a headway is in ticks.
 pub enum Request {
     Equal,
     Outbound(u32),
     Inbound(u32),
     Platoons(u32, u32),
+    Volumes(u32, u32, u32),
 }
 
 // What a request comes to: the equal plan as it is, or moved so that one direction has this width.
@@ -82,6 +83,21 @@ fn short_enough(outbound: u32, inbound: u32) -> Verdict
     Verdict::Passed
 }
 
+// Neither volume is too large, the headway is in its range, and then neither of the platoons is too long.
+fn light_enough(cycle: u32, outbound: u32, inbound: u32, headway: u32) -> Verdict
+    requires { ⌜ cycle ≤ maxCycle ⌝ }
+    ensures { λ r. ⌜ r ≡ trafficCheck cycle outbound inbound headway ⌝ }
+{
+    let judged = traffic::check(outbound, inbound, headway);
+    if let Verdict::Refused(f) = judged {
+        return Verdict::Refused(f);
+    }
+    short_enough(
+        traffic::platoon(cycle, headway, outbound),
+        traffic::platoon(cycle, headway, inbound),
+    )
+}
+
 // The check of what a request adds to a plan's lists.
 pub fn check(s: Street, raised: u32, request: Request) -> Verdict
     requires { ⌜ Raised (timedStreet s) raised ⌝ }
@@ -92,6 +108,9 @@ pub fn check(s: Street, raised: u32, request: Request) -> Verdict
         Request::Outbound(width) => in_range(s, raised, width),
         Request::Inbound(width) => in_range(s, raised, width),
         Request::Platoons(outbound, inbound) => short_enough(outbound, inbound),
+        Request::Volumes(outbound, inbound, headway) => {
+            light_enough(s.cycle, outbound, inbound, headway)
+        }
     }
 }
 
@@ -161,6 +180,12 @@ pub fn settle(s: Street, raised: u32, request: Request) -> Shift
         Request::Outbound(width) => Shift::Outbound(width),
         Request::Inbound(width) => Shift::Inbound(width),
         Request::Platoons(outbound, inbound) => favoured(s, raised, outbound, inbound),
+        Request::Volumes(outbound, inbound, headway) => favoured(
+            s,
+            raised,
+            traffic::platoon(s.cycle, headway, outbound),
+            traffic::platoon(s.cycle, headway, inbound),
+        ),
     }
 }
 

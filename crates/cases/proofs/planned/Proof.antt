@@ -51,4 +51,7 @@ planned-spec =
     (λ c κs. search needs)
     (λ c κs. search needs)
     show-requires
+    (λ c. search needs)
+    (λ c κs. search needs)
+    (λ c. search needs)
     (λ c. search needs))

@@ -20,6 +20,8 @@ use Rattle.street.specs.declared.Verdict.{Verdict}
 use Rattle.street.specs.declared.Verdict.the-variants.{Passed, Refused}
 use Rattle.street.proofs.CheckLaws.{passes, code-some}
 use Rattle.street.proofs.Passed.{first-passed, rest-passed}
+use Rattle.traffic.specs.Volumes.{platoonOf, Largest}
+use Rattle.traffic.proofs.VolumeLaws.{longer, largest-of-all}
 use Rattle.widths.specs.Moved.{platoonShift, shiftOf}
 use Rattle.widths.specs.Checks.{widthCheck, requestCheck}
 use Rattle.widths.specs.declared.Request.{Request}
@@ -32,9 +34,11 @@ use Rattle.offsets.proofs.MovedLaws.{unmoved-offset}
 use Rattle.plans.specs.Answers.{planVerdict, planNumbers, answered}
 use Rattle.plans.specs.Requests.{movedPlan, requestChecks, Requested}
 use Rattle.plans.specs.declared.Plan.{Plan}
+use Rattle.plans.specs.Volumes.{LargestFor}
 use Rattle.plans.specs.declared.Answer.{Answer}
+use Rattle.plans.specs.declared.Answer.the-variants as answer
 use Rattle.promises.specs.Exact.{roundedWays, exactWays}
-use Rattle.promises.specs.Replies.{Kept, KeptRounded, KeptExact, EqualIsMethod, OneSided}
+use Rattle.promises.specs.Replies.{Kept, KeptRounded, KeptExact, EqualIsMethod, OneSided, FitsUpTo, LargestVolumes}
 use Rattle.promises.proofs.Streets.Passing.{fit, rising}
 use Rattle.promises.proofs.Streets.Directions.{near-rounded, near-exact}
 use Rattle.promises.proofs.Kept.{InRange, Follows, plan-keeps, platoons-in-range}
@@ -71,6 +75,8 @@ in-range request.Equal l room passed e = tt
 in-range (request.Outbound w) l room passed e = width-passed (timed l) w e
 in-range (request.Inbound w) l room passed e = width-passed (timed l) w e
 in-range (request.Platoons P Q) l room passed e = platoons-in-range (timed l) (fit l room passed) (rising l room passed) P Q
+in-range (request.Volumes out back h) l room passed e =
+    platoons-in-range (timed l) (fit l room passed) (rising l room passed) (platoonOf (l .cycle) h out) (platoonOf (l .cycle) h back)
 
 -- so what a reply with code 0 and the lent list say: the checks passed, the shift is in range, and numbers and offsets are those of a plan
 pub record Told (l : Lists) (room : ℕ) (shift : Shift) (exit : List ℕ) (r : Answer) : Type 0 where
@@ -150,7 +156,7 @@ one-sided asked l entry exit r call code P Q is =
     let w = platoonWidth s P (P + Q) in
     let w′ = platoonWidth s Q (P + Q) in
     let of : (k : Shift) → k ≡ platoonShift s P Q → movedPlan k s (m l) ≡ planNumbers r .plan =
-    λ k e. ap (λ x. movedPlan x s (m l)) (e ∙ sym (ap (λ a. shiftOf a s) is)) ∙ told .numbers in (
+    λ k e. ap (λ x. movedPlan x s (m l)) (e ∙ sym is) ∙ told .numbers in (
       λ more none.
           let e = of (Outbound w) (favours-outbound s P Q w (λ same. omega (arith, same)) more refl) in
           sym (ap (λ p. pos (p .outbound)) e) ∙ platoons-alone s ok P (P + Q) (ap (λ p. p .inbound) e ∙ none),
@@ -158,3 +164,17 @@ one-sided asked l entry exit r call code P Q is =
           let e = of (Inbound w′) (favours-inbound s P Q w′ (λ same. omega (arith, same)) (omega arith) refl) in
           sym (ap (λ p. pos (p .inbound)) e) ∙ platoons-alone s ok Q (P + Q) (ap (λ p. p .outbound) e ∙ none),
     )
+
+-- a largest volume tells of every other whether it fits
+fits-up-to : (C h w most : ℕ) → Largest C h w most → FitsUpTo C h w most
+fits-up-to C h w most is volume small =
+    (λ l. omega (arith, longer C h volume most (omega arith), is .fits), largest-of-all C h w most volume is small)
+
+reply-fits :
+    (C h out back : ℕ) (a : Answer) → LargestFor C h a out back → planNumbers a .code ≡ 0 →
+    FitsUpTo C h (planNumbers a .plan .outbound) out × FitsUpTo C h (planNumbers a .plan .inbound) back
+reply-fits C h out back (answer.Planned p) is code = (fits-up-to C h (p .outbound) out (is .0), fits-up-to C h (p .inbound) back (is .1))
+reply-fits C h out back (answer.Refused f) is code = absurd (omega (arith, code-some (f .code)))
+
+pub largest-volumes : LargestVolumes
+largest-volumes out back h l entry exit r call = reply-fits (l .cycle) h (r .outbound) (r .inbound) (r .answer) (call .volumes)

@@ -1,16 +1,23 @@
 -- Document 01's rows 2 and 3 and its street A as instances of the promises: `measure` finds the bands under the offsets that the row's call leaves as wide as the row says. The reply and
--- the list are the row's, by computation; that the width is the measured one is the theorem. Assumes nothing.
+-- the list are the row's, by computation; that the width is the measured one is the theorem. And rows of volumes as instances of the contract of `volumes`, with the largest volumes. Assumes nothing.
 use Prim.Native.Nat.{ℕ}
 use mathlib.Core.Path.{_≡_, refl}
 use mathlib.Core.List.{List, [], _∷_}
+use lib.IntN.{pos}
 use Rattle.circle.specs.Over.{firstBelow, sumBelow, leastBelow, greatestBelow, listBelow}
 use Rattle.circle.specs.Method.{u, pairWidth, b, B, reference, phase, offset, equalWidth, redEnd, redStart}
-use Rattle.circle.specs.Moved.{lowered}
+use Rattle.circle.specs.Moved.{g, chosen, outboundLowering, lowered, otherWidth, foundWidth, platoonWidth}
 use Rattle.street.specs.Lists.{Lists}
 use Rattle.street.specs.Checks.{countCheck, roomCheck, cycleCheck, redCheck, distanceCheck, speedCheck, planChecks}
+use Rattle.traffic.specs.Checks.{volumeCheck}
+use Rattle.traffic.proofs.Examples.{into-89, into-31, into-60, all-into-60}
+use Rattle.widths.specs.Moved.{platoonShift}
+use Rattle.widths.specs.Checks.{platoonCheck, trafficCheck}
 use Rattle.widths.specs.declared.Request.the-variants.{Equal}
+use Rattle.plans.specs.Volumes.{Carries}
+use Rattle.plans.specs.declared.Answer.{Answer}
 use Rattle.bands.specs.Measure.{bandNumbers, measurementOf}
-use Rattle.promises.specs.Rows.{twoSignals, twoAlike, streetA, lent}
+use Rattle.promises.specs.Rows.{twoSignals, twoAlike, streetA, plan, lent}
 use Rattle.promises.proofs.Replies.Measures.{measure-agrees}
 
 -- both measured bands under some offsets have a width
@@ -26,3 +33,18 @@ instances =
     let quarter = measure-agrees Equal (twoAlike 600 300 15000) lent _ _ (record { reply = refl; after = refl }) refl in
     let a = measure-agrees Equal streetA lent _ _ (record { reply = refl; after = refl }) refl in
     ((half .1, half .2), (quarter .1, quarter .2), (a .1, a .2))
+
+-- street A with 800 and 300 vehicles an hour, with two volumes whose platoons are equal, and with none: the reply, the list, and the largest volumes beside the reply
+abbrev CarriesOnA : ℕ → ℕ → ℕ → Answer → List ℕ → ℕ → ℕ → Type 0
+CarriesOnA out back h answer exit most most′ = Carries out back h streetA lent exit (record { answer = answer; outbound = most; inbound = most′ })
+
+pub volumes :
+    CarriesOnA 800 300 20 (plan 1 (pos 60) 89 31 0 11 131) (171 ∷ 10 ∷ 7 ∷ []) 801 279
+    × CarriesOnA 265 270 20 (plan 1 (pos 60) 60 60 0 40 160) (0 ∷ 10 ∷ 7 ∷ []) 540 540
+    × CarriesOnA 0 0 1 (plan 1 (pos 60) 60 60 0 40 160) (0 ∷ 10 ∷ 7 ∷ []) 10000 10000
+unfolding twoSignals streetA lent plan firstBelow sumBelow leastBelow greatestBelow listBelow u pairWidth b B reference phase offset equalWidth redEnd redStart g chosen outboundLowering lowered otherWidth foundWidth platoonWidth platoonShift countCheck roomCheck cycleCheck redCheck distanceCheck speedCheck planChecks platoonCheck volumeCheck trafficCheck
+volumes = (
+  record { plan = record { reply = refl; after = refl }; volumes = (into-89, into-31) },
+  record { plan = record { reply = refl; after = refl }; volumes = (into-60, into-60) },
+  record { plan = record { reply = refl; after = refl }; volumes = (all-into-60, all-into-60) },
+)

@@ -8,8 +8,9 @@ use Rattle.circle.specs.Method.{u, pairWidth, b, B, reference, phase, offset, e
 use Rattle.circle.specs.Moved.{g, inRange, chosen, outboundLowering, inboundLowering, lowered, otherWidth, foundWidth, platoonWidth}
 use Rattle.street.specs.Checks.{countCheck, roomCheck, cycleCheck, redCheck, distanceCheck, speedCheck, planChecks}
 use Rattle.widths.specs.Moved.{platoonShift}
-use Rattle.widths.specs.Checks.{platoonCheck, widthCheck}
-use Rattle.promises.specs.Rows.{best-is, ExactBest, lent, Holds, All, twoSignals, twoAlike, streetA, schoolStreet, plan, row, best-row, refusal, equal-rows, rounding-rows, width-rows, platoon-rows, rows}
+use Rattle.traffic.specs.Checks.{volumeCheck}
+use Rattle.widths.specs.Checks.{platoonCheck, trafficCheck, widthCheck}
+use Rattle.promises.specs.Rows.{best-is, ExactBest, lent, Holds, All, twoSignals, twoAlike, streetA, schoolStreet, longCycle, plan, row, best-row, refusal, equal-rows, rounding-rows, width-rows, platoon-rows, volume-rows, rows}
 use Rattle.promises.proofs.Streets.Directions.{near-exact}
 use Rattle.promises.proofs.Kept.Bounds.{none-wider}
 use Rattle.promises.proofs.Witnesses.{fine-link}
@@ -23,11 +24,12 @@ nine = (
 )
 
 pub rows-hold : All rows
-unfolding All Holds ExactBest best-row row plan refusal rows equal-rows rounding-rows width-rows platoon-rows twoSignals twoAlike streetA schoolStreet lent
+unfolding All Holds ExactBest best-row row plan refusal rows equal-rows rounding-rows width-rows platoon-rows volume-rows twoSignals twoAlike streetA schoolStreet longCycle lent
 rows-hold =
-    unfold countCheck roomCheck cycleCheck redCheck distanceCheck speedCheck planChecks platoonCheck widthCheck in
+    unfold countCheck roomCheck cycleCheck redCheck distanceCheck speedCheck planChecks platoonCheck volumeCheck trafficCheck widthCheck in
     unfold firstBelow sumBelow leastBelow greatestBelow listBelow u pairWidth b B reference phase offset equalWidth redEnd redStart g inRange chosen outboundLowering inboundLowering lowered otherWidth foundWidth platoonWidth platoonShift in
-    let platoons : All platoon-rows = ((refl, refl, tt), ((refl, refl, tt), ((refl, refl, tt), ((refl, refl, tt), ((refl, refl, tt), ((refl, refl, tt), ((refl, refl, tt), ((refl, refl, tt), ((refl, refl, tt), tt))))))))) in
-    let widths : All (width-rows ++ platoon-rows) = ((refl, refl, tt), ((refl, refl, tt), ((refl, refl, tt), ((refl, refl, tt), ((refl, refl, tt), ((refl, refl, tt), ((refl, refl, tt), ((refl, refl, tt), platoons)))))))) in
-    let roundings : All (rounding-rows ++ (width-rows ++ platoon-rows)) = ((refl, refl, tt), ((refl, refl, tt), widths)) in
+    let volumes : All volume-rows = ((refl, refl, tt), ((refl, refl, tt), ((refl, refl, tt), ((refl, refl, tt), ((refl, refl, tt), ((refl, refl, tt), ((refl, refl, tt), ((refl, refl, tt), ((refl, refl, tt), tt))))))))) in
+    let platoons : All (platoon-rows ++ volume-rows) = ((refl, refl, tt), ((refl, refl, tt), ((refl, refl, tt), ((refl, refl, tt), ((refl, refl, tt), ((refl, refl, tt), ((refl, refl, tt), ((refl, refl, tt), ((refl, refl, tt), volumes))))))))) in
+    let widths : All (width-rows ++ (platoon-rows ++ volume-rows)) = ((refl, refl, tt), ((refl, refl, tt), ((refl, refl, tt), ((refl, refl, tt), ((refl, refl, tt), ((refl, refl, tt), ((refl, refl, tt), ((refl, refl, tt), platoons)))))))) in
+    let roundings : All (rounding-rows ++ (width-rows ++ (platoon-rows ++ volume-rows))) = ((refl, refl, tt), ((refl, refl, tt), widths)) in
     ((refl, refl, tt), ((refl, refl, tt), ((refl, refl, tt), ((refl, refl, tt), ((refl, refl, tt), ((refl, refl, nine), ((refl, refl, tt), roundings)))))))

@@ -27,6 +27,12 @@ enum-known-request-3 c = search needs
 short-enough-requires : tie.Need-short-enough-requires
 short-enough-requires c κs = search needs
 
+enum-known-request-4 : tie.Need-enum-known-request-4
+enum-known-request-4 c = search needs
+
+light-enough-requires : tie.Need-light-enough-requires
+light-enough-requires c κs = search needs
+
 returns : tie.Need-returns
 returns c = search needs
 
@@ -45,6 +51,11 @@ returns-4 c =
     let c0 = c .before .before .before .before in
     c .short-enough .ensures ∙ sym (ap (λ x. requestCheck x (timedStreet (c0 .args .s))) (c .before .before .request3 .given .1))
 
+returns-5 : tie.Need-returns-5
+returns-5 c =
+    let c0 = c .before .before .before .before in
+    c .light-enough .ensures ∙ sym (ap (λ x. requestCheck x (timedStreet (c0 .args .s))) (c .before .before .request4 .given .1))
+
 pub check-spec : {M : Type 1} → statement M
 check-spec =
     tie.close
@@ -56,7 +67,10 @@ check-spec =
     in-range-requires-2
     enum-known-request-3
     short-enough-requires
+    enum-known-request-4
+    light-enough-requires
     returns
     returns-2
     returns-3
-    returns-4)
+    returns-4
+    returns-5)
