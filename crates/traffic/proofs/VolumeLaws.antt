@@ -1,5 +1,5 @@
 -- Laws of volumes. A platoon is the least number of halves that is enough for its volume, so that a volume fits a width exactly when V·C·h is at most 18,000 times the width. Of all volumes that fit there is
--- just one largest, and each of the others is below it. Assumes nothing.
+-- just one largest, and each of the others is below it. And what a passed check tells: the numbers are so small that their product is too. Assumes nothing.
 use Prim.Native.Nat.{ℕ, _+_, _-_, _*_, _/_, _%_, _≤_, _<_}
 use mathlib.Core.Path.{_≡_}
 use native.Mathlib.Omega.{arith}
@@ -36,10 +36,10 @@ rounded-up-only C h volume p is =
     omega (arith, is .least (platoonOf C h volume) (own .enough), own .least p (is .enough))
 
 -- a platoon fits a width, or does not, by the product
-pub fits-by : (C h volume w : ℕ) → volume * C * h ≤ halfHour * w → platoonOf C h volume ≤ w
+fits-by : (C h volume w : ℕ) → volume * C * h ≤ halfHour * w → platoonOf C h volume ≤ w
 fits-by C h volume w = rounded-up C h volume .least w
 
-pub past-by : (C h volume w : ℕ) → halfHour * w < volume * C * h → w < platoonOf C h volume
+past-by : (C h volume w : ℕ) → halfHour * w < volume * C * h → w < platoonOf C h volume
 past-by C h volume w l = omega (arith, l, rounded-up C h volume .enough)
 
 -- a larger volume has no shorter platoon

@@ -164,10 +164,12 @@ fn favoured(s: Street, raised: u32, outbound: u32, inbound: u32) -> Shift
     if outbound == inbound {
         return Shift::Unmoved;
     }
+    let longer = circle::larger(outbound, inbound);
+    let width = share(s, raised, longer, outbound + inbound);
     if inbound < outbound {
-        return Shift::Outbound(share(s, raised, outbound, outbound + inbound));
+        return Shift::Outbound(width);
     }
-    Shift::Inbound(share(s, raised, inbound, outbound + inbound))
+    Shift::Inbound(width)
 }
 
 // What a request that passed its check comes to.
