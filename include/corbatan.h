@@ -66,7 +66,7 @@
 /*
  * How many bytes of stack are enough for any of the calls, with its arguments and its reply. client/stack.c measures
  * what they take, on streets of up to 32 signals, on requests and on refusals: corbatan_print 12,728,
- * corbatan_volumes 10,200, any other plan 10,152, corbatan_read 1,328, corbatan_write 1,072, corbatan_measure 2,008.
+ * corbatan_volumes 10,152, any other plan 10,120, corbatan_read 1,344, corbatan_write 1,072, corbatan_measure 2,008.
  * The rest is room, as for the dynamic linker, which takes some 2,000 bytes of the caller's stack where it binds memcpy
  * or memset at their first use.
  */
