@@ -138,12 +138,14 @@ platoon-rows =
 unfoldable pub longCycle : Lists
 longCycle = record { cycle = 6000; reds = 3000 ∷ []; distances = 0 ∷ []; outbound = []; inbound = [] }
 
--- volumes (02, 2026-03): on street A nine vehicles an hour, 2 s apart, are a half. Platoons of 89 and 34, row 11's own, two that come to the same length, and one too long; and the limits in their order
+-- volumes (02, 2026-03): on street A nine vehicles an hour, 2 s apart, are a half, on the school street one, 3 s apart. Platoons of 89 and 34, row 11's own, two that come to the same length, the school street's
+-- own, and one too long; and the limits in their order
 unfoldable pub volume-rows : List Row
 volume-rows =
     row streetA (Volumes 800 300 20) (plan 1 (pos 60) 89 31 0 11 131) (171 ∷ 10 ∷ 7 ∷ [])
     ∷ row streetA (Volumes 270 90 20) (plan 1 (pos 60) 90 30 0 10 130) (170 ∷ 10 ∷ 7 ∷ [])
     ∷ row streetA (Volumes 265 270 20) (plan 1 (pos 60) 60 60 0 40 160) (0 ∷ 10 ∷ 7 ∷ [])
+    ∷ row schoolStreet (Volumes 50 0 30) (plan 1 (pos 100) 400 0 0 100 500) (900 ∷ 0 ∷ 7 ∷ [])
     ∷ row longCycle (Volumes 3000 2999 100) (plan 1 (pos 6000) 6000 6000 0 3000 9000) (0 ∷ 7 ∷ 7 ∷ [])
     ∷ row longCycle (Volumes 3001 0 100) (refusal Platoon 1) lent
     ∷ row longCycle (Volumes 3001 10001 0) (refusal Volume 2) lent

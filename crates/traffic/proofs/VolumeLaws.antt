@@ -1,6 +1,6 @@
 -- Laws of volumes. A platoon is the least number of halves that is enough for its volume, so that a volume fits a width exactly when V·C·h is at most 18,000 times the width. Of all volumes that fit there is
 -- just one largest, and each of the others is below it. And what a passed check tells: the numbers are so small that their product is too. Assumes nothing.
-use Prim.Native.Nat.{ℕ, _+_, _-_, _*_, _/_, _%_, _≤_, _<_}
+use Prim.Native.Nat.{ℕ, _+_, _-_, _*_, _/_, _≤_, _<_}
 use mathlib.Core.Path.{_≡_}
 use native.Mathlib.Omega.{arith}
 use native.Mathlib.Decide.{decLe}

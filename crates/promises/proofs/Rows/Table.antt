@@ -28,7 +28,7 @@ unfolding All Holds ExactBest best-row row plan refusal rows equal-rows rounding
 rows-hold =
     unfold countCheck roomCheck cycleCheck redCheck distanceCheck speedCheck planChecks platoonCheck volumeCheck trafficCheck widthCheck in
     unfold firstBelow sumBelow leastBelow greatestBelow listBelow u pairWidth b B reference phase offset equalWidth redEnd redStart g inRange chosen outboundLowering inboundLowering lowered otherWidth foundWidth platoonWidth platoonShift in
-    let volumes : All volume-rows = ((refl, refl, tt), ((refl, refl, tt), ((refl, refl, tt), ((refl, refl, tt), ((refl, refl, tt), ((refl, refl, tt), ((refl, refl, tt), ((refl, refl, tt), ((refl, refl, tt), tt))))))))) in
+    let volumes : All volume-rows = ((refl, refl, tt), ((refl, refl, tt), ((refl, refl, tt), ((refl, refl, tt), ((refl, refl, tt), ((refl, refl, tt), ((refl, refl, tt), ((refl, refl, tt), ((refl, refl, tt), ((refl, refl, tt), tt)))))))))) in
     let platoons : All (platoon-rows ++ volume-rows) = ((refl, refl, tt), ((refl, refl, tt), ((refl, refl, tt), ((refl, refl, tt), ((refl, refl, tt), ((refl, refl, tt), ((refl, refl, tt), ((refl, refl, tt), ((refl, refl, tt), volumes))))))))) in
     let widths : All (width-rows ++ (platoon-rows ++ volume-rows)) = ((refl, refl, tt), ((refl, refl, tt), ((refl, refl, tt), ((refl, refl, tt), ((refl, refl, tt), ((refl, refl, tt), ((refl, refl, tt), ((refl, refl, tt), platoons)))))))) in
     let roundings : All (rounding-rows ++ (width-rows ++ (platoon-rows ++ volume-rows))) = ((refl, refl, tt), ((refl, refl, tt), widths)) in
