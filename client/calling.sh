@@ -6,7 +6,7 @@
 # there; these two are then named and not run, and of their text it is seen that it compiles.
 
 blocks=(street.txt street.c c.sh pkg-config.sh street.cc cpp.sh street.rs rust.sh shared.sh street.py python.sh
-    sheet.txt sheet.c sheet.sh)
+    sheet.txt sheet.c sheet.sh survey.txt survey.c survey.sh)
 
 take_out() {
     local block
@@ -146,4 +146,6 @@ run_page() {
     if can python3; then by_page Python python.sh; else not_run Python python3 -m py_compile street.py; fi
     text=sheet.txt
     if can cc; then by_page 'C that writes a sheet' sheet.sh; else by_way 'C that writes a sheet' sheet.c -x c -std=c99; fi
+    text=survey.txt
+    if can cc; then by_page 'C that reads a survey' survey.sh; else by_way 'C that reads a survey' survey.c -x c -std=c99; fi
 }

@@ -6,14 +6,17 @@
  *     client SHEET volumes V W HEADWAY
  *     client SHEET write [N]
  *     client SHEET print|numbers|unequal
+ *     client ROWS survey CYCLE [room N]
  *     client empty
  *
  * Without a word after the sheet, or with `room`, it is the equal plan. `volumes` prints the largest volumes after the
  * reply. `write` writes the sheet again into a lent list of N bytes, two more than any sheet needs where N is not said,
  * prints the reply and all bytes of the list, and tells whether what was written reads back as the same numbers.
- * `print` shows the printed plan and `numbers` what the reader read. `unequal` hands over lists whose lengths do not
- * fit, and `empty` hands null pointers and counts of 0 to every call. Exit status: 0, or 2 where the words or the file
- * are no good; a refusal is an answer.
+ * `print` shows the printed plan and `numbers` what the reader read. `survey` reads at most 64 rows from its file, each
+ * on a line with the number of its kind, its position, outbound and inbound speed, each as the 16 hexadecimal digits of
+ * any float's bits, and its red; it shows what the rows came to, and the equal plan of that. `unequal` hands over lists
+ * whose lengths do not fit, and `empty` hands null pointers and counts of 0 to every call. Exit status: 0, or 2 where
+ * the words or the file are no good; a refusal is an answer.
  */
 #include "corbatan.h"
 
@@ -37,6 +40,11 @@ typedef char measure_size[sizeof(CorbatanMeasure) == 24 ? 1 : -1];
 typedef char sheet_size[sizeof(CorbatanSheet) == 536 && offsetof(CorbatanSheet, reds) == 20 ? 1 : -1];
 typedef char writing_size[sizeof(CorbatanWriting) == 16 && offsetof(CorbatanWriting, count) == 8 ? 1 : -1];
 typedef char text_size[sizeof(CorbatanText) == 520 && offsetof(CorbatanText, bytes) == 8 ? 1 : -1];
+
+/* A survey's rows, with nothing in them where no file of rows is read. */
+#define MAX_ROWS 64
+static uint32_t kinds[MAX_ROWS], row_reds[MAX_ROWS];
+static double positions[MAX_ROWS], outbound[MAX_ROWS], inbound[MAX_ROWS];
 
 static uint32_t lent[MAX_ROOM];
 static uint8_t lent_bytes[MAX_BYTES];
@@ -89,7 +97,8 @@ static void show_measure(CorbatanMeasure m)
     printf(" inbound %" PRIu32 " from %" PRIu32 "\n", m.inbound_width, m.inbound_start);
 }
 
-static void show_sheet(CorbatanSheet s)
+/* Shows the reply, and how many numbers stand where there should be none. */
+static size_t show_head(CorbatanSheet s)
 {
     size_t links = s.signals == 0 ? 0 : s.signals - 1, beyond = 0;
     for (size_t i = 0; i < CORBATAN_MAX_SIGNALS; i++) {
@@ -98,6 +107,12 @@ static void show_sheet(CorbatanSheet s)
     }
     printf("sheet code %" PRIu32 " place %" PRIu32 " signals %zu cycle %" PRIu32, s.code, s.place, s.signals, s.cycle);
     printf(" numbers beyond %zu\n", beyond);
+    return links;
+}
+
+static void show_sheet(CorbatanSheet s)
+{
+    size_t links = show_head(s);
     show_list("reds", s.reds, s.signals);
     show_list("distances", s.distances, s.signals);
     show_list("outbound", s.outbound, links);
@@ -165,8 +180,9 @@ static void write_again(const CorbatanSheet *s, size_t room)
 }
 
 /* A distance too few, an outbound speed too many, an inbound speed too many, an offset too many, and then as many as
-   there should be, which still are the pattern and so too large. Last a sheet with a distance too few, over as many
-   bytes as there are signals: that is too little room as well, which would be named last. */
+   there should be, which still are the pattern and so too large. Then a sheet with a distance too few, over as many
+   bytes as there are signals: that is too little room as well, which would be named last. Last a survey of rows with
+   nothing in them, each list in turn too short or too long, and then all as long as they should be. */
 static void unequal(const CorbatanSheet *s)
 {
     const uint32_t *r = s->reds, *d = s->distances, *o = s->outbound, *i = s->inbound;
@@ -179,6 +195,12 @@ static void unequal(const CorbatanSheet *s)
     show_measure(corbatan_measure(STREET(*s, n, links), lent, n + 1));
     show_measure(corbatan_measure(STREET(*s, n, links), lent, n));
     show_writing(corbatan_write(s->cycle, r, n, d, n - 1, o, links, i, links, fill_bytes(n), n), n);
+    show_head(corbatan_survey(s->cycle, kinds, n - 1, positions, n, outbound, n, inbound, n, r, n));
+    show_head(corbatan_survey(s->cycle, kinds, n, positions, n + 1, outbound, n, inbound, n, r, n));
+    show_head(corbatan_survey(s->cycle, kinds, n, positions, n, outbound, links, inbound, n, r, n));
+    show_head(corbatan_survey(s->cycle, kinds, n, positions, n, outbound, n, inbound, links, r, n));
+    show_head(corbatan_survey(s->cycle, kinds, n, positions, n, outbound, n, inbound, n, r, n - 1));
+    show_head(corbatan_survey(s->cycle, kinds, n, positions, n, outbound, n, inbound, n, r, n));
 }
 
 static void empty(void)
@@ -192,6 +214,7 @@ static void empty(void)
     show_volumes(corbatan_volumes(600, NULL, 0, NULL, 0, NULL, 0, NULL, 0, 800, 300, 20, NULL, 0));
     show_measure(corbatan_measure(600, NULL, 0, NULL, 0, NULL, 0, NULL, 0, NULL, 0));
     show_writing(corbatan_write(600, NULL, 0, NULL, 0, NULL, 0, NULL, 0, NULL, 0), 0);
+    show_head(corbatan_survey(600, NULL, 0, NULL, 0, NULL, 0, NULL, 0, NULL, 0));
 }
 
 static int usage(void)
@@ -200,8 +223,54 @@ static int usage(void)
     fprintf(stderr, "       client SHEET volumes V W HEADWAY\n");
     fprintf(stderr, "       client SHEET write [N]\n");
     fprintf(stderr, "       client SHEET print|numbers|unequal\n");
+    fprintf(stderr, "       client ROWS survey CYCLE [room N]\n");
     fprintf(stderr, "       client empty\n");
     return 2;
+}
+
+/* Takes a float by its bits, a space and 16 hexadecimal digits, and works nothing out with it. Answers whether they
+   stand there. */
+static int next_float(char **at, double *number)
+{
+    char *from = *at;
+    uint64_t bits = strtoull(from, at, 16);
+    memcpy(number, &bits, sizeof bits);
+    return *from == ' ' && *at - from == 17;
+}
+
+/* Reads rows from a text, and answers how many there are; more than there may be where the text has something else. */
+static size_t read_rows(char *at)
+{
+    size_t n = 0;
+    for (; *at != 0 && n < MAX_ROWS; n++) {
+        kinds[n] = (uint32_t)strtoul(at, &at, 10);
+        if (!next_float(&at, &positions[n]) || !next_float(&at, &outbound[n]) || !next_float(&at, &inbound[n]))
+            return MAX_ROWS + 1;
+        row_reds[n] = (uint32_t)strtoul(at, &at, 10);
+        if (*at++ != '\n')
+            return MAX_ROWS + 1;
+    }
+    return *at == 0 ? n : MAX_ROWS + 1;
+}
+
+/* The rows of a text, the numbers that they come to, and the equal plan of these, by the words after `survey`. */
+static int surveyed(char *text, int words, char **word)
+{
+    size_t n = read_rows(text), room = n < MAX_ROOM ? n + 1 : MAX_ROOM;
+    if (words == 3 && strcmp(word[1], "room") == 0)
+        room = strtoul(word[2], NULL, 10);
+    else if (words != 1)
+        return usage();
+    if (n > MAX_ROWS || room > MAX_ROOM)
+        return usage();
+    uint32_t cycle = (uint32_t)strtoul(word[0], NULL, 10);
+    CorbatanSheet s = corbatan_survey(cycle, list(kinds, n), n, positions, n, outbound, n, inbound, n, row_reds, n);
+    show_sheet(s);
+    if (s.code == CORBATAN_OK) {
+        uint32_t *offsets = fill(room);
+        show_planned(&s, corbatan_equal(STREET(s, s.signals, s.signals - 1), offsets, room), room);
+    }
+    return 0;
 }
 
 /* The calls on a sheet that was read, by the words after its name. */
@@ -239,8 +308,9 @@ static int asked(const CorbatanSheet *s, int words, char **word)
 
 int main(int argc, char **argv)
 {
-    /* Twice what a sheet may have, so that one that is too long is still too long here. */
-    static uint8_t bytes[4096];
+    /* Far more than a sheet may have, so that one that is too long is still too long here, and enough for 64 rows; the
+       last byte stays 0, so that rows end before it. */
+    static uint8_t bytes[8192];
     if (argc < 2)
         return usage();
     if (argc == 2 && strcmp(argv[1], "empty") == 0) {
@@ -252,8 +322,10 @@ int main(int argc, char **argv)
         perror(argv[1]);
         return 2;
     }
-    size_t count = fread(bytes, 1, sizeof bytes, file);
+    size_t count = fread(bytes, 1, sizeof bytes - 1, file);
     fclose(file);
+    if (argc > 3 && strcmp(argv[2], "survey") == 0)
+        return surveyed((char *)bytes, argc - 3, argv + 3);
     if (argc == 3 && strcmp(argv[2], "print") == 0) {
         show_text(corbatan_print(bytes, count));
         return 0;

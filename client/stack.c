@@ -23,7 +23,8 @@ static volatile uint64_t region[WORDS];
 
 /* What the next call gets. The counts stand apart, so that they can be wrong. */
 static uint32_t cycle, reds[N], distances[N], outbound[N], inbound[N], offsets[N], first, second, headway;
-static uint32_t lent[N];
+static uint32_t kinds[N], lent[N];
+static double positions[N], row_outbound[N], row_inbound[N];
 static uint8_t lent_bytes[CORBATAN_MAX_SHEET];
 static size_t signals, links, room, bytes_room;
 static uint8_t sheet[4096];
@@ -38,7 +39,10 @@ static CorbatanText text;
 
 #define STREET cycle, reds, signals, distances, signals, outbound, links, inbound, links
 
+#define ROWS cycle, kinds, signals, positions, signals, row_outbound, signals, row_inbound, signals, reds, signals
+
 static void call_read(void) { numbers = corbatan_read(sheet, sheet_count); }
+static void call_survey(void) { numbers = corbatan_survey(ROWS); }
 static void call_write(void) { writing = corbatan_write(STREET, lent_bytes, bytes_room); }
 static void call_print(void) { text = corbatan_print(sheet, sheet_count); }
 static void call_equal(void) { plan = corbatan_equal(STREET, lent, room); }
@@ -54,6 +58,7 @@ static struct {
     size_t most;
 } calls[] = {
     {"corbatan_read", call_read, 0},
+    {"corbatan_survey", call_survey, 0},
     {"corbatan_write", call_write, 0},
     {"corbatan_print", call_print, 0},
     {"corbatan_equal", call_equal, 0},
@@ -112,7 +117,8 @@ static uint32_t below(uint32_t bound)
     return (uint32_t)(state >> 33) % bound;
 }
 
-/* Sets a street of n signals, with the greatest numbers that the rules allow or with random ones. */
+/* Sets a street of n signals, with the greatest numbers that the rules allow or with random ones, and as many rows of a
+   survey, which are those of another street. */
 static void set_street(size_t n, int greatest)
 {
     signals = room = n;
@@ -126,6 +132,10 @@ static void set_street(size_t n, int greatest)
         outbound[i] = greatest ? 40000 : 1000 + below(39001);
         inbound[i] = greatest ? 40000 : 1000 + below(39001);
         offsets[i] = greatest ? 11999 : below(2 * cycle);
+        kinds[i] = greatest ? CORBATAN_CHAINAGE : CORBATAN_GAP;
+        positions[i] = greatest ? 20000 - (double)(n - 1 - i) * 0.125 : below(5001) * 0.125;
+        row_outbound[i] = i == 0 ? 0 : greatest ? 40 : (8 + below(313)) * 0.125;
+        row_inbound[i] = i == 0 ? 0 : greatest ? 40 : (8 + below(313)) * 0.125;
     }
 }
 
@@ -164,6 +174,22 @@ static void measure_with(uint32_t *number, uint32_t changed)
     *number = kept;
 }
 
+/* A NaN: the float of which every bit is set. */
+static double every_bit(void)
+{
+    double number;
+    memset(&number, 255, sizeof number);
+    return number;
+}
+
+static void measure_with_float(double *number, double changed)
+{
+    double kept = *number;
+    *number = changed;
+    measure_all();
+    *number = kept;
+}
+
 /* Measures refusals of the street that is set: of numbers, each at its first and at its last place, and of counts. A
    number stands for a platoon and for a volume. Here 10,000 vehicles an hour have too long a platoon and 10,001 are too
    many, and a platoon of 100,001 halves is too long. */
@@ -182,6 +208,10 @@ static void measure_refusals(void)
         measure_with(&reds[i], cycle);
         measure_with(&distances[i], 20000001);
         measure_with(&offsets[i], 2 * cycle);
+        measure_with(&kinds[i], 2);
+        measure_with_float(&positions[i], 20000.125);
+        measure_with_float(&row_outbound[i], every_bit());
+        measure_with_float(&row_inbound[i], 0.0625);
     }
     measure_with(&outbound[0], 999);
     measure_with(&inbound[links - 1], 40001);

@@ -3,13 +3,15 @@
  *
  * A street has n signals, numbered 1 to n in order of distance; that way is
  * outbound, and link k joins signals k and k + 1. Each call takes a street's
- * numbers, or the bytes of a street sheet, and answers with one struct by
- * value. The rules behind the numbers are in docs/RULES.md.
+ * numbers, the bytes of a street sheet or the rows of a survey instrument, and
+ * answers with one struct by value. The rules behind the numbers are in
+ * docs/RULES.md.
  *
  * Units. A tick is a tenth of a second, a half is half a tick. Cycles and reds
  * are in ticks, distances in mm, speeds in mm/s; offsets, widths, instants and
  * platoons are in halves. Volumes are in vehicles an hour, a headway is in
- * ticks. H is the cycle in halves, twice its ticks.
+ * ticks. H is the cycle in halves, twice its ticks. A survey's rows alone have
+ * metres and metres a second, as 64-bit floats.
  *
  * Lists. A list is a pointer and a count of entries, not of bytes.
  *
@@ -22,12 +24,12 @@
  *     another, or be the same list.
  *
  * What a caller gets: every call returns, whatever the counts and the numbers
- * are. Numbers that make no street are refused by a code, and a list of the
- * wrong length is one of the faults. A plan writes the first n entries of the
- * lent list, corbatan_write as many as the sheet has bytes, and neither any
- * other; a refusal writes none. Nothing is allocated and nothing is kept
- * between calls, so threads may call at the same time, each with a lent list
- * of its own.
+ * are, and whatever the bits of a float. Numbers that make no street are
+ * refused by a code, and a list of the wrong length is one of the faults. A
+ * plan writes the first n entries of the lent list, corbatan_write as many as
+ * the sheet has bytes, and neither any other; a refusal writes none. Nothing
+ * is allocated and nothing is kept between calls, so threads may call at the
+ * same time, each with a lent list of its own.
  *
  * How to get the archive, which is for x86-64 Linux: in the repository,
  *
@@ -51,8 +53,8 @@
 
 /* The version of this interface: the major number changes when a program that uses it has to change. */
 #define CORBATAN_VERSION_MAJOR 1
-#define CORBATAN_VERSION_MINOR 4
-#define CORBATAN_VERSION "1.4"
+#define CORBATAN_VERSION_MINOR 5
+#define CORBATAN_VERSION "1.5"
 
 /* How many signals a street can have, and so how long the lists in a CorbatanSheet are. */
 #define CORBATAN_MAX_SIGNALS 32
@@ -63,19 +65,24 @@
 /* How many bytes a printed text can have. */
 #define CORBATAN_MAX_TEXT 512
 
+/* The kinds of a survey row's position: its distance from the origin, or from the signal of the row before. */
+#define CORBATAN_CHAINAGE 0
+#define CORBATAN_GAP 1
+
 /*
  * How many bytes of stack are enough for any of the calls, with its arguments and its reply. client/stack.c measures
- * what they take, on streets of up to 32 signals, on requests and on refusals: corbatan_print 12,728,
- * corbatan_volumes 10,152, any other plan 10,120, corbatan_read 1,344, corbatan_write 1,072, corbatan_measure 2,008.
- * The rest is room, as for the dynamic linker, which takes some 2,000 bytes of the caller's stack where it binds memcpy
- * or memset at their first use.
+ * what they take, on streets of up to 32 signals, on requests and on refusals: corbatan_print 12,712,
+ * corbatan_volumes 10,184, any other plan at most 10,136, corbatan_survey 4,136, corbatan_measure 2,008, corbatan_read
+ * 1,328, corbatan_write 1,072; another kit may give a few bytes more or less. The rest is room, as for the dynamic
+ * linker, which takes some 2,000 bytes of the caller's stack where it binds memcpy or memset at their first use.
  */
 #define CORBATAN_STACK 20480
 
 /*
  * What `code` says, and what `place` then names, counted from 1. Of a street's faults the one with the smallest code
  * is given, at its first place, except that corbatan_volumes gives code 11 before code 8, and corbatan_write code 3
- * last of all; of a sheet's the first that reading comes to.
+ * last of all; of a sheet's the first that reading comes to. A survey's code 12 comes directly after 2: corbatan_survey
+ * gives no other, and a call that plans its numbers judges them from 3 on.
  */
 #define CORBATAN_OK 0       /* Nothing was refused; place 0. */
 #define CORBATAN_SHEET 1    /* The bytes are not formed as a sheet; place 0. */
@@ -89,6 +96,7 @@
 #define CORBATAN_WIDTH 9    /* A requested width is below 1, below B or above the least H - 2r; place 0. */
 #define CORBATAN_OFFSET 10  /* A measured offset is not below H; the signal. */
 #define CORBATAN_VOLUME 11  /* A volume is above 10,000 or a headway not 1 to 100; 1 outbound, 2 inbound, 3 headway. */
+#define CORBATAN_SURVEY 12  /* A number of a survey's row is outside its rules; the row. */
 
 #ifdef __cplusplus
 extern "C" {
@@ -128,12 +136,12 @@ typedef struct CorbatanMeasure {
 } CorbatanMeasure;
 
 /*
- * The numbers of a sheet, which the call that uses them judges, or a refusal, of which all but the code is 0. It has
- * 536 bytes, 4 of them empty at its end.
+ * The numbers of a sheet or of a survey, which the call that uses them judges, or a refusal, whose numbers but code and
+ * place are 0. It has 536 bytes, 4 of them empty at its end.
  */
 typedef struct CorbatanSheet {
-    uint32_t code;                            /* 0 for a sheet that was read, else 1 or 2. */
-    uint32_t place;                           /* Always 0: the reader's refusals name no place. */
+    uint32_t code;                            /* 0 for numbers that were read; else 1 or 2 for a sheet, 2 or 12 for a survey. */
+    uint32_t place;                           /* The row that code 12 refuses, counted from 1; else 0. */
     size_t signals;                           /* n, the count of signals; there are n - 1 links. */
     uint32_t cycle;                           /* The cycle, in ticks. */
     uint32_t reds[CORBATAN_MAX_SIGNALS];      /* Each signal's red, in ticks; 0 from entry n on. */
@@ -157,6 +165,25 @@ typedef struct CorbatanText {
 
 /* Reads a street sheet from its bytes. */
 CorbatanSheet corbatan_read(const uint8_t *bytes, size_t bytes_count);
+
+/*
+ * Takes the rows of a survey instrument, n of them with an entry in each list, for the street that they come to, in
+ * the units of the other calls. Row k has signal k: its position in metres, CORBATAN_CHAINAGE from the origin or
+ * CORBATAN_GAP from the signal of the row before, in the first row from the origin; the two speeds, in metres a second,
+ * of the link that ends there; and its red in ticks. A float is accepted when it is finite, not negative, at most 20,000
+ * and a whole multiple of 1/8; negative zero counts as zero. It becomes 125 mm or 125 mm/s for each eighth, so that n
+ * rows give n distances and, from row 2 on, the speeds of n - 1 links. At the first row no link ends, and both its
+ * speeds must be zero. A row with another float, with a kind that is neither of the two or with its signal further than
+ * 20,000 m from the origin gets code 12; the first such row is the place. The cycle and the reds go over as they are,
+ * and the call that uses the numbers judges them. n is reds_count, and every list has n entries.
+ */
+CorbatanSheet corbatan_survey(
+    uint32_t cycle,
+    const uint32_t *kinds, size_t kinds_count,
+    const double *positions, size_t positions_count,
+    const double *outbound, size_t outbound_count,
+    const double *inbound, size_t inbound_count,
+    const uint32_t *reds, size_t reds_count);
 
 /*
  * Writes the sheet of a street into the first bytes of a lent list. From these corbatan_read reads the same numbers

@@ -4,6 +4,9 @@
 
 quiet='' words=()
 
+# What is read, and the most bytes that it may have.
+paper='street sheet' most=2048
+
 # Takes the options in front and leaves the words after them.
 take_options() { # WORD...
     while [ $# -gt 0 ]; do
@@ -22,21 +25,21 @@ take_options() { # WORD...
 # Makes the file that the words name the standard input, while the caller's folder is still the current one.
 open_sheet() { # [--] [FILE]
     [ "${1:-}" != -- ] || shift
-    [ $# -le 1 ] || misused "one street sheet is read, and here are $#: $*"
+    [ $# -le 1 ] || misused "one $paper is read, and here are $#: $*"
     if [ $# -eq 0 ] || [ "$1" = - ]; then
         { : 3<&0; } 2>/dev/null || stop "standard input is closed, and no file is named"
-        [ ! -t 0 ] || say "reading a street sheet from the terminal; end it with Ctrl-D"
+        [ ! -t 0 ] || say "reading a $paper from the terminal; end it with Ctrl-D"
         return
     fi
     [ -e "$1" ] || stop "there is no file $1"
-    [ ! -d "$1" ] || stop "$1 is a folder, not a street sheet"
+    [ ! -d "$1" ] || stop "$1 is a folder, not a $paper"
     [ -r "$1" ] || stop "the file $1 may not be read"
     exec <"$1" || stop "the file $1 cannot be read"
 }
 
 # Keeps the first bytes of the sheet: one more than it may have, so that one that is too long is seen to be.
 take_sheet() {
-    head -c 2049 >"$scratch/sheet" 2>"$scratch/fault" || stop "the street sheet cannot be read: $(reason)"
+    head -c "$((most + 1))" >"$scratch/sheet" 2>"$scratch/fault" || stop "the $paper cannot be read: $(reason)"
 }
 
 # What a command said last, without its name.
@@ -47,7 +50,7 @@ reason() { sed -n '${s/.*: //;p;}' "$scratch/fault"; }
 ready() { # PROGRAM FOLDER [--] [FILE]
     local program=$1 folder=$2
     shift 2
-    need awk cat dirname find head mktemp od readlink rm sed tail tee touch uname
+    need awk cat dirname find head mktemp od readlink rm sed tail tee touch tr uname
     open_sheet "$@"
     enter "$folder"
     catch_signals
@@ -77,9 +80,23 @@ hand_over() {
     exit 2
 }
 
-# A sentence about the sheet: its size, or what was refused and where.
+# Runs a script of awk, after what such scripts share, on its input.
+run_awk() { # SCRIPT OPTION...
+    awk "${@:2}" -f scripts/words.awk -f "scripts/$1.awk"
+}
+
+# A sentence about the sheet or the rows: the street's size, or what was refused and where.
 look() { # CODE PLACE REQUEST
-    od -An -v -t u1 "$scratch/sheet" | awk -v code="$1" -v place="$2" -v request="$3" -f scripts/sheet.awk
+    local about=(-v code="$1" -v place="$2" -v request="$3")
+    case $3 in
+    survey*) typed_rows "${about[@]}" ;;
+    *) od -An -v -t u1 "$scratch/sheet" | run_awk sheet "${about[@]}" ;;
+    esac
+}
+
+# Has the typed rows read, where a byte 0 is as little of a row as a byte 1 is.
+typed_rows() { # OPTION...
+    tr '\000' '\001' <"$scratch/sheet" | run_awk rows "$@"
 }
 
 # Hands the answer over with a sentence about it, and answers 1 where it is a refusal.
@@ -89,8 +106,9 @@ conclude() { # REQUEST
     hand_over
     if [ "$first" = refused ]; then
         say "$(look "$code" "$place" "$1")"
-        case $code in
-        [1-7]) say "docs/SHEETS.md shows what gets each code and how to mend it; docs/RULES.md has the form of a sheet in full." ;;
+        case $code$1 in
+        *survey*) say "docs/RULES.md says what the rows of a survey may have, and docs/EXAMPLES.md shows some." ;;
+        [1-7][!0-9]*) say "docs/SHEETS.md shows what gets each code and how to mend it; docs/RULES.md has the form of a sheet in full." ;;
         *) say "docs/RULES.md says what a request may ask, and docs/EXAMPLES.md shows some." ;;
         esac
         return 1

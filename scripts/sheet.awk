@@ -1,4 +1,4 @@
-# Looks at a street sheet, whose bytes come as `od -An -v -t u1` prints them, and says a sentence about it.
+# Looks at a street sheet, whose bytes come as `od -An -v -t u1` prints them, and says a sentence about it, after words.awk.
 #
 # It decides nothing: the proved program has answered, with `code` and `place`, what the words of `request` ask. With
 # code 0 the sentence says how long cycle, reds and street are. Else it says what was refused, and on which line. Where
@@ -50,8 +50,6 @@ function formed(line, columns,    at) {
 
 function first(line) { return substr(text[line], 1, index(text[line], " ") - 1) + 0 }
 function second(line) { return substr(text[line], index(text[line], " ") + 1) + 0 }
-
-function count(n, thing) { return n " " thing (n == 1 ? "" : "s") }
 
 # The next line, and what should stand there. Answers whether it does; if not, reading stops.
 function take(columns, what) {
@@ -210,26 +208,16 @@ function fault(    sentence) {
     else if (code == 2 && own == 2) sentence = count_fault()
     else if (code == 2 && own == 0 && word[1] == "measure") sentence = offsets_fault()
     else if (code > 2 && own == 0) sentence = number_fault()
-    return "refused, code " code (sentence == "" ? ", place " place : ": " sentence) "."
+    return refused(sentence)
 }
 
-# A number in a unit, with the decimals that it needs.
-function decimal(value, unit,    whole, rest) {
-    whole = int(value / unit)
-    rest = substr(sprintf("%d", unit + value % unit), 2)
-    sub(/0+$/, "", rest)
-    return rest == "" ? whole : whole "." rest
-}
-
-function size(    k, least, most, times) {
+function size(    k, least, most) {
     least = most = second(4)
     for (k = 5; k < 4 + signals; k++) {
         if (second(k) < least) least = second(k)
         if (second(k) > most) most = second(k)
     }
-    times = "a cycle of " decimal(cycle, 10) " s, reds of " decimal(least, 10) (least == most ? "" : " to " decimal(most, 10)) " s, "
-    if (signals == 1) return times "one signal"
-    return times decimal(first(3 + signals) - first(4), 1000) " m from signal 1 to signal " signals
+    return sized(cycle, least, most, signals, first(3 + signals) - first(4))
 }
 
 BEGIN {

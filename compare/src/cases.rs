@@ -1,8 +1,9 @@
-//! The program `cases` as a model: many requests in one input, each with its sheet, and a reply to each.
+//! The program `cases` as a model: many requests in one input, each with its sheet or its rows, and a reply to each.
 
 use crate::moved::Ask;
-use crate::printed::{asked_prints, measure_prints, write_prints};
+use crate::printed::{asked_prints, measure_prints, survey_prints, write_prints};
 use crate::street::MAX_SIGNALS;
+use crate::survey::rows;
 
 pub const LARGEST_INPUT: usize = 65_536;
 pub const LARGEST_ROOM: usize = 64;
@@ -15,10 +16,11 @@ pub enum Request {
     Plan { ask: Ask, room: usize },
     Measure { offsets: Vec<i64> },
     Write { room: usize },
+    Survey { cycle: i64, room: usize },
 }
 
-/// A number of a request line: digits alone, and below 2^32.
-fn number(word: &str) -> Option<i64> {
+/// A number of a request line, or a row's red: digits alone, and below 2^32.
+pub fn number(word: &str) -> Option<i64> {
     let digits = word.bytes().all(|byte| byte.is_ascii_digit());
     word.parse().ok().filter(|&value: &i64| digits && value < 1 << 32)
 }
@@ -54,11 +56,19 @@ pub fn request(line: &[u8]) -> Option<Request> {
             Some(Request::Measure { offsets })
         }
         ["write", rest @ ..] => room(rest, SHEET_ROOM, SHEET_ROOM).map(|room| Request::Write { room }),
+        ["survey", cycle, rest @ ..] => {
+            let (cycle, room) = (number(cycle)?, room(rest, MAX_SIGNALS, LARGEST_ROOM)?);
+            Some(Request::Survey { cycle, room })
+        }
         words => {
             let (ask, rest) = ask(words)?;
             room(rest, MAX_SIGNALS, LARGEST_ROOM).map(|room| Request::Plan { ask, room })
         }
     }
+}
+
+fn bad() -> String {
+    "bad request\n".to_string()
 }
 
 /// The reply to one case, without the empty line that follows it.
@@ -69,7 +79,10 @@ pub fn reply(case: &[u8]) -> String {
         Some((Request::Plan { ask, room }, sheet)) => asked_prints(sheet, ask, room),
         Some((Request::Measure { offsets }, sheet)) => measure_prints(sheet, &offsets),
         Some((Request::Write { room }, sheet)) => write_prints(sheet, room),
-        None => "bad request\n".to_string(),
+        Some((Request::Survey { cycle, room }, lines)) => {
+            rows(lines).map_or_else(bad, |rows| survey_prints(cycle, &rows, room))
+        }
+        None => bad(),
     }
 }
 

@@ -1,4 +1,4 @@
-//! The C client as a model: what `client/client.c` prints for its words and the bytes of its sheet.
+//! The C client as a model: what `client/client.c` prints for its words and the bytes of its sheet or its rows.
 
 use crate::bands::{measured, Band};
 use crate::cases::ask;
@@ -7,7 +7,8 @@ use crate::moved::{plan, Ask};
 use crate::named::named;
 use crate::printed::plan_prints;
 use crate::sheet::{read, written};
-use crate::street::{Refusal, Street};
+use crate::street::{refusal, Refusal, Street};
+use crate::survey::{self, numbered_rows, Row, CHAINAGE};
 use crate::volumes::fitting;
 
 /// What the client fills its lent list with; no offset is as large.
@@ -19,10 +20,14 @@ const BYTE_PATTERN: u8 = 77;
 /// How many bytes the client lends where its words do not say: two more than the longest sheet of a street has.
 pub const LARGEST_BYTES: usize = 835;
 
+/// The greatest lent list of the client, and the most rows that it hands over.
+pub const LARGEST_ROOM: usize = 64;
+
 /// All that the client prints, given the words after the name of its sheet.
 pub fn prints(words: &[&str], sheet: &[u8]) -> String {
     match (words, read(sheet)) {
         (["print"], _) => plan_prints(sheet),
+        (["survey", cycle, room @ ..], _) => surveyed(cycle, room, sheet),
         (["numbers"], reply) | (_, reply @ Err(_)) => numbers(&reply),
         (["unequal"], Ok(street)) => unequal(&street),
         (["write"], Ok(street)) => written_again(&street, LARGEST_BYTES),
@@ -45,7 +50,7 @@ pub fn empty() -> String {
         [Ask::Equal, Ask::Outbound(80), Ask::Inbound(80), Ask::Platoons(30, 10), Ask::Volumes(800, 300, 20)];
     let plans: String = asks.map(|ask| plan_lines(&none, ask, &plan(&none, ask, 0))).concat();
     let told = numbers(&read(b"")) + &plan_prints(b"") + &plans + &measure_line(&none, &[]);
-    told + &writing_lines(&none, 0)
+    told + &writing_lines(&none, 0) + &numbers_line(&survey::street(600, &[]))
 }
 
 fn list(name: &str, entries: &[i64]) -> String {
@@ -57,11 +62,20 @@ fn head<T>(name: &str, reply: &Result<T, Refusal>) -> String {
     format!("{name} code {code} place {place}")
 }
 
-fn numbers(reply: &Result<Street, Refusal>) -> String {
+/// The street that was read, or one of which every number is 0.
+fn read_street(reply: &Result<Street, Refusal>) -> Street {
     let none = Street { cycle: 0, reds: vec![], distances: vec![], outbound: vec![], inbound: vec![] };
-    let street = reply.as_ref().unwrap_or(&none);
-    let mut text = head("sheet", reply);
-    text += &format!(" signals {} cycle {} numbers beyond 0\n", street.signals(), street.cycle);
+    reply.clone().unwrap_or(none)
+}
+
+fn numbers_line(reply: &Result<Street, Refusal>) -> String {
+    let street = read_street(reply);
+    head("sheet", reply) + &format!(" signals {} cycle {} numbers beyond 0\n", street.signals(), street.cycle)
+}
+
+fn numbers(reply: &Result<Street, Refusal>) -> String {
+    let street = read_street(reply);
+    let mut text = numbers_line(reply);
     text += &list("reds", &street.reds);
     text += &list("distances", &street.distances);
     text += &list("outbound", &street.outbound);
@@ -110,6 +124,20 @@ fn planned(street: &Street, ask: Ask, room: usize) -> String {
     plan_lines(street, ask, &reply) + &list("list", &lent) + &measure
 }
 
+/// What the rows of a file come to at a cycle, and where that is a street its equal plan, over a list with one entry more
+/// than there are rows or as many as the words say.
+fn surveyed(cycle: &str, room: &[&str], text: &[u8]) -> String {
+    let rows = numbered_rows(text).unwrap_or_else(|| panic!("no rows: {}", text.escape_ascii()));
+    let room = match room {
+        [] => (rows.len() + 1).min(LARGEST_ROOM),
+        ["room", room] => room.parse().expect("a count of entries"),
+        _ => panic!("the client has no words {room:?} after a survey's cycle"),
+    };
+    let reply = survey::street(cycle.parse().expect("a cycle"), &rows);
+    let plan = reply.as_ref().map_or(String::new(), |street| planned(street, Ask::Equal, room));
+    numbers(&reply) + &plan
+}
+
 /// The reply of the writer, and the lent list of bytes after it.
 fn writing_lines(street: &Street, room: usize) -> String {
     let reply = written(street, room);
@@ -126,7 +154,8 @@ fn written_again(street: &Street, room: usize) -> String {
     writing_lines(street, room) + told
 }
 
-/// Five calls with a list of another length, and one with offsets that are still the pattern.
+/// Five calls with a list of another length, one with offsets that are still the pattern, and surveys of rows with nothing
+/// in them but the reds, five of them with a list of another length.
 fn unequal(street: &Street) -> String {
     let n = street.signals();
     let (mut distances, mut outbound, mut inbound) = (street.clone(), street.clone(), street.clone());
@@ -138,5 +167,8 @@ fn unequal(street: &Street) -> String {
     let plans: String = refused.map(|(street, ask)| plan_line(&street, &plan(&street, ask, n))).concat();
     let pattern = vec![PATTERN; n + 1];
     let measures = measure_line(street, &pattern) + &measure_line(street, &pattern[..n]);
-    plans + &list("list", &pattern[..n]) + &measures + &writing
+    let nothing = |&red: &i64| Row { kind: CHAINAGE, floats: [0; 3], red };
+    let survey = survey::street(street.cycle, &street.reds.iter().map(nothing).collect::<Vec<Row>>());
+    let surveys = numbers_line(&Err(refusal(2, 0))).repeat(5) + &numbers_line(&survey);
+    plans + &list("list", &pattern[..n]) + &measures + &writing + &surveys
 }

@@ -1,14 +1,15 @@
 //! The rules of `docs/RULES.md` a second time, and what holds the programs to them.
 //!
-//! The model (`street`, `equal`, `moved`, `volumes`, `bands`, `named`, `exact`, `sheet`, `printed`, `cases`, `client`)
-//! follows the rules' signed formulas as they stand, by brute force, and shares nothing with the proved crates. The rest
-//! makes sheets and requests (`random`, `streets`, `limits`, `damage`, `offsets`, `asks`), runs the programs and the
-//! scripts on them (`run`, `scripts`) and compares (`trial`, `hold`, `coverage`, `asked`, `asked_volumes`, `tally`);
-//! `page`, `paper` and `decimal` read the pages whose sheets and tables are run, and `pencil` works out what a page does by
-//! hand. `specs` reads the definitions themselves, for what is said of their names, and `cited` (with `terms`) counts how
-//! many lines of them the contracts and the demands come to.
+//! The model (`street`, `equal`, `moved`, `volumes`, `survey`, `bands`, `named`, `exact`, `sheet`, `printed`, `cases`,
+//! `client`) follows the rules' signed formulas as they stand, by brute force, and shares nothing with the proved crates.
+//! The rest makes sheets, rows and requests (`random`, `streets`, `limits`, `damage`, `rows`, `offsets`, `asks`), runs the
+//! programs and the scripts on them (`run`, `scripts`) and compares (`trial`, `hold`, `coverage`, `asked`, `asked_volumes`,
+//! `asked_survey`, `tally`); `page`, `paper` and `decimal` read the pages whose sheets and tables are run, and `pencil`
+//! works out what a page does by hand. `specs` reads the definitions themselves, for what is said of their names, and
+//! `cited` (with `terms`) counts how many lines of them the contracts and the demands come to.
 
 pub mod asked;
+pub mod asked_survey;
 pub mod asked_volumes;
 pub mod asks;
 pub mod bands;
@@ -30,12 +31,14 @@ pub mod paper;
 pub mod pencil;
 pub mod printed;
 pub mod random;
+pub mod rows;
 pub mod run;
 pub mod scripts;
 pub mod sheet;
 pub mod specs;
 pub mod street;
 pub mod streets;
+pub mod survey;
 pub mod tally;
 pub mod terms;
 pub mod trial;

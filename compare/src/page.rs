@@ -100,6 +100,16 @@ impl Page {
         self.rows(header).into_iter().map(|(line, _)| lines[line - 1]).collect()
     }
 
+    /// The rows of the examples' table of surveys: what is typed, what is asked and what it gets, each with line ends.
+    pub fn surveys(&self) -> Vec<[String; 3]> {
+        let lines = self.lines("| Row | Rows | Asked | Reply |");
+        let row = |line: &str| {
+            let cells: Vec<String> = line.split('|').skip(2).take(3).map(coded).collect();
+            cells.try_into().expect("rows, a request and a reply")
+        };
+        lines.into_iter().map(row).collect()
+    }
+
     pub fn table(&self, header: &str) -> Vec<Vec<String>> {
         self.rows(header).into_iter().map(|(_, cells)| cells).collect()
     }

@@ -5,6 +5,7 @@ use crate::equal::{equal, Plan};
 use crate::moved::{plan, Ask};
 use crate::sheet::{read, written};
 use crate::street::{Refusal, MAX_SIGNALS};
+use crate::survey::{self, Row};
 use crate::volumes::fitting;
 
 pub fn printed(reply: &Result<Plan, Refusal>) -> String {
@@ -64,6 +65,11 @@ pub fn write_prints(sheet: &[u8], room: usize) -> String {
         Ok(sheet) => String::from_utf8(sheet).expect("a written sheet is digits, spaces and line ends"),
         Err(refusal) => refused(&refusal),
     }
+}
+
+/// What the rows of a survey get at a cycle, with a lent list of `room` entries: the equal plan of their street.
+pub fn survey_prints(cycle: i64, rows: &[Row], room: usize) -> String {
+    printed(&survey::street(cycle, rows).and_then(|street| equal(&street, room)))
 }
 
 /// What a sheet gets as its equal plan, with a lent list of `room` entries.

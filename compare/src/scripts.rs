@@ -67,11 +67,34 @@ pub fn written_otherwise(sheet: &[u8], plan: &Ended) -> Option<String> {
 /// What the scripts say of a sheet, given what the program answered to a request.
 pub fn look(sheet: &[u8], code: i64, place: i64, request: &str) -> String {
     let listed: String = sheet.chunks(16).map(numbers).collect();
-    let mut awk = Command::new("awk");
-    awk.arg("-v").arg(format!("code={code}")).arg("-v").arg(format!("place={place}"));
-    awk.arg("-v").arg(format!("request={request}")).arg("-f").arg(repository().join("scripts/sheet.awk"));
-    let Ended { status, printed, said } = ended(awk.env("LC_ALL", "C"), listed.as_bytes());
-    assert!(status == Some(0) && said.is_empty(), "awk ended with {status:?} and said: {said}");
+    read_by("awk", "sheet", &about(code, place, request), listed.as_bytes())
+}
+
+/// What the scripts say of typed rows, given what the program answered to a request.
+pub fn look_at_rows(rows: &str, code: i64, place: i64, request: &str) -> String {
+    read_by("awk", "rows", &about(code, place, request), rows.as_bytes())
+}
+
+/// Typed rows as the scripts put them to the program, by the awk of some words.
+pub fn converted(awk: &str, rows: &str) -> String {
+    read_by(awk, "rows", &[], rows.as_bytes())
+}
+
+/// What a script of awk is told of an answer.
+fn about(code: i64, place: i64, request: &str) -> Vec<String> {
+    vec![format!("code={code}"), format!("place={place}"), format!("request={request}")]
+}
+
+/// Runs a script of awk on an input, by the awk of some words and with variables set.
+fn read_by(awk: &str, script: &str, variables: &[String], input: &[u8]) -> String {
+    let mut words = awk.split(' ');
+    let mut awk = Command::new(words.next().expect("a word"));
+    awk.args(words).args(variables.iter().flat_map(|set| ["-v", set]));
+    for name in ["words", script] {
+        awk.arg("-f").arg(repository().join(format!("scripts/{name}.awk")));
+    }
+    let Ended { status, printed, said } = ended(awk.env("LC_ALL", "C"), input);
+    assert!(status == Some(0) && said.is_empty(), "awk ended with {status:?} and said: {said}{printed}");
     printed
 }
 

@@ -1,13 +1,13 @@
 //! Counts under names, each with the least that a run must have counted to be worth anything.
 
 pub struct Tally {
-    rows: Vec<(&'static str, usize, usize)>,
+    rows: Vec<(String, usize, usize)>,
 }
 
 impl Tally {
     /// The names to count and how often each must be noted at least.
-    pub fn of(wanted: &[(&'static str, usize)]) -> Tally {
-        Tally { rows: wanted.iter().map(|&(name, least)| (name, least, 0)).collect() }
+    pub fn of<N: ToString>(wanted: &[(N, usize)]) -> Tally {
+        Tally { rows: wanted.iter().map(|(name, least)| (name.to_string(), *least, 0)).collect() }
     }
 
     pub fn note(&mut self, name: &str, holds: bool) {

@@ -1,16 +1,20 @@
 //! The C client over the compiled archive, which `client/run` builds, held to the model: on every sheet of
-//! docs/SHEETS.md, on the sample sheets with requests at the ends of their ranges, and on random sheets.
+//! docs/SHEETS.md, on the sample sheets with requests at the ends of their ranges, on random sheets, and on random rows of
+//! surveys with any kinds and any bits.
 
 use compare::asks::{ask, volumes};
-use compare::client::{empty, prints, LARGEST_BYTES};
+use compare::client::{empty, prints, LARGEST_BYTES, LARGEST_ROOM};
 use compare::equal::Pairs;
 use compare::moved::{shortest_green, MAX_PLATOON};
 use compare::page::{Page, Sample};
 use compare::random::Random;
+use compare::rows::{Survey, LIMITS};
 use compare::run::{repository, text, Program};
 use compare::sheet::{read, write, written, LARGEST_SHEET, STREET_A};
 use compare::street::Street;
 use compare::streets;
+use compare::survey::{numbered_lines, numbered_rows, CHAINAGE, GAP};
+use compare::tally::Tally;
 use compare::trial::{in_parallel, indented, Case};
 use compare::volumes::{HEADWAY, MAX_VOLUME};
 use std::fs;
@@ -18,9 +22,6 @@ use std::path::PathBuf;
 
 const SEED: u64 = 1_966;
 const RANDOM: u64 = 200;
-
-/// The greatest lent list of the client.
-const LARGEST_ROOM: usize = 64;
 
 /// One start of the client: the file that it opens, that file's bytes, and the words after its name.
 struct Run {
@@ -172,6 +173,66 @@ fn the_client_is_right_on_random_sheets() {
     hold(&runs);
 }
 
+/// A random survey, now and then with rows of other kinds, with random bits everywhere, or with a list of another length.
+fn random_rows(number: u64) -> Run {
+    let random = &mut Random::new(SEED + 1, number);
+    let Survey { cycle, mut rows } = Survey::random(random);
+    for row in &mut rows {
+        if random.one_in(120) {
+            row.kind = random.pick(&[2, 3, 255, 256, 257, 65_536, 1 << 31, (1 << 32) - 1]);
+        }
+    }
+    if random.one_in(12) {
+        let any = |random: &mut Random| (random.below(1 << 32) << 32 | random.below(1 << 32)) as u64;
+        rows.iter_mut().for_each(|row| row.floats = [(); 3].map(|_| any(random)));
+    }
+    let (n, any) = (rows.len(), random.below(LARGEST_ROOM + 1));
+    let room = random.pick(&[n.saturating_sub(1), n, LARGEST_ROOM, 0, any]);
+    let words = if random.one_in(4) { format!(" room {room}") } else { String::new() };
+    piped(&numbered_lines(&rows), format!("survey {cycle}{words}"))
+}
+
+/// Two rows, the second with a float as its gap or as either of its speeds.
+fn with_float(bits: u64, f: usize) -> Run {
+    let mut floats = ["403e000000000000", "4024000000000000", "402e000000000000"].map(str::to_string);
+    floats[f] = format!("{bits:016x}");
+    let rows = format!("0 {0} {0} {0} 40\n1 {1} 50\n", "8000000000000000", floats.join(" "));
+    piped(rows.as_bytes(), "survey 100")
+}
+
+#[test]
+fn the_client_is_right_on_random_rows() {
+    let random: Vec<Run> = (0..2 * RANDOM).map(random_rows).collect();
+    let mut tally = Tally::of(&[
+        ("planned", 80),
+        ("sheet code 2 ", 5),
+        ("sheet code 12 ", 120),
+        ("a row of another kind refused", 20),
+        ("plan code 3 ", 10),
+        ("plan code 4 ", 3),
+        ("plan code 5 ", 5),
+        ("plan code 6 ", 4),
+        ("plan code 7 ", 5),
+    ]);
+    for run in &random {
+        let told = prints(&run.words.split_whitespace().collect::<Vec<&str>>(), &run.sheet);
+        let rows = numbered_rows(&run.sheet).expect("rows");
+        let place = told.split(' ').nth(4).and_then(|place| place.parse::<usize>().ok()).expect("a place");
+        let other = place > 0 && ![CHAINAGE, GAP].contains(&rows[place - 1].kind);
+        tally.note("planned", told.contains("plan code 0 "));
+        tally.note("a row of another kind refused", other);
+        for code in ["sheet code 2 ", "sheet code 12 ", "plan code 3 ", "plan code 4 ", "plan code 5 "] {
+            tally.note(code, told.contains(code));
+        }
+        for code in ["plan code 6 ", "plan code 7 "] {
+            tally.note(code, told.contains(code));
+        }
+    }
+    tally.close();
+    let limits = LIMITS.iter().flat_map(|limit| (0..3).map(move |f| with_float(limit.1, f)));
+    hold(&random.into_iter().chain(limits).collect::<Vec<Run>>());
+}
+
 #[test]
 fn a_sheet_that_is_read_and_written_again_is_the_same() {
     let page = Page::open("SHEETS.md").samples().into_iter().map(|sample| sample.sheet);
@@ -207,13 +268,17 @@ fn the_client_hands_over_empty_lists() {
 #[test]
 fn the_client_tells_bad_words_from_a_refusal() {
     let client = Program::client();
-    let bad: [&[&str]; 7] = [
+    let bad: [&[&str]; 10] = [
         &[],
         &["/dev/stdin", "equal"],
         &["/dev/stdin", "outbound"],
         &["/dev/stdin", "room", "65"],
         &["/dev/stdin", "write", "836"],
         &["/dev/stdin", "volumes", "800", "300"],
+        &["/dev/stdin", "survey"],
+        &["/dev/stdin", "survey", "100", "room"],
+        // A sheet has no rows.
+        &["/dev/stdin", "survey", "100"],
         &["no-such-sheet.txt"],
     ];
     for words in bad {
@@ -238,7 +303,9 @@ fn the_clients_shown_lines_are_the_models() {
     let cases = shown();
     let street_a = ["", " room 1", " unequal", " write 36", " write 35", " volumes 800 300 20"];
     let wanted = street_a.map(|words| format!("sheets/street-a.txt{words}"));
-    for words in wanted.iter().map(String::as_str).chain(["empty"]) {
+    let rows = ["street-a.txt survey 100", "bad-kind.txt survey 100", "speed-of-zero.txt survey 100 room 2"]
+        .map(|words| format!("client/rows/{words}"));
+    for words in wanted.iter().chain(&rows).map(String::as_str).chain(["empty"]) {
         assert!(cases.iter().any(|(shown, _)| shown == words), "client/expected.txt does not show {words}");
     }
     for (line, text) in cases {

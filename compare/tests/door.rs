@@ -71,7 +71,7 @@ fn words_that_cannot_be_taken_are_answered_with_why() {
         (
             "ask",
             vec!["equals"],
-            "ask: there is no request equals; there are equal, outbound, inbound, platoons, volumes, measure and write\n",
+            "ask: there is no request equals; there are equal, outbound, inbound, platoons, volumes, measure, write and survey\n",
         ),
         ("ask", vec!["writes"], "ask: there is no request writes; there are equal, outbound"),
         ("ask", vec!["write", "5", "a"], "ask: one street sheet is read, and here are 2: 5 a\n"),
@@ -111,8 +111,29 @@ fn volumes_take_three_numbers() {
 }
 
 #[test]
+fn a_survey_takes_its_cycle() {
+    let usages: [(&[&str], &str); 6] = [
+        (&["surveys", "100"], "ask: there is no request surveys; there are equal, outbound"),
+        (&["survey"], "ask: survey lacks a number\n"),
+        (&["survey", "10.0"], "ask: survey lacks a number, since 10.0 is none"),
+        (&["survey", "-100"], "ask: survey lacks a number, since -100 is none"),
+        (&["survey", "100", "a", "b"], "ask: one list of rows is read, and here are 2: a b\n"),
+        (&["survey", "100", "room", "2"], "ask: one list of rows is read, and here are 2: room 2\n"),
+    ];
+    for (words, why) in usages {
+        expect_misused("ask", words, why);
+    }
+    let large = script("ask", &["survey", "4294967296"], b"chainage 0 0 0 40\n");
+    expect("a cycle", &large, 2, "", "ask: in 'survey 4294967296' a number is 4,294,967,296 or more\n");
+}
+
+#[test]
 fn what_cannot_be_read_or_made_is_said_to_be_that() {
     let inputs = [
+        ("./ask survey 100 <&-", "standard input is closed"),
+        ("./ask survey 100 docs", "docs is a folder, not a list of rows"),
+        ("./ask survey 100 200", "there is no file 200"),
+        ("./ask survey 100 <docs", "the list of rows cannot be read: Is a directory"),
         ("./plan <&-", "standard input is closed"),
         ("./ask equal <&-", "standard input is closed"),
         ("./ask write <&-", "standard input is closed"),
@@ -184,7 +205,16 @@ fn the_pages_tables_can_be_asked_as_they_stand() {
     for row in &paper {
         ask_row(&row[0], &row[1], &reply(row));
     }
-    assert_eq!((lines.len(), paper.len()), (35, 19));
+    let surveys = examples.surveys();
+    for [rows, request, reply] in &surveys {
+        let words: Vec<&str> = ["-q"].into_iter().chain(request.trim_end().split(' ')).collect();
+        let Ended { status, printed, .. } = script("ask", &words, rows.as_bytes());
+        let expected = i32::from(reply.starts_with("refused"));
+        assert_eq!((status, &printed), (Some(expected), reply), "./ask {words:?}, on {rows}");
+    }
+    let shown = examples.text.lines().find(|line| line.starts_with("    printf ")).expect("a command");
+    expect(shown, &bash(shown.trim()), 0, &surveys[0][2], TESTED);
+    assert_eq!((lines.len(), paper.len(), surveys.len()), (35, 19, 11));
 }
 
 #[test]
@@ -275,6 +305,103 @@ fn refused_volumes_are_explained() {
     }
 }
 
+/// Street A in rows as a person types them.
+const ROWS_A: &str = "chainage 0 0 0 40\ngap 30 10 15 50\n";
+
+#[test]
+fn rows_are_typed_as_the_instrument_shows_them() {
+    let size = format!("{}{TESTED}", SIZE_A.replace("plan: ", "ask: "));
+    let ways = [
+        ROWS_A,
+        "chainage 0 0 0 40\ngap 30 10 15 50",
+        "chainage -0 -0.000 +0 40\nchainage 3e1 1.0E+1 15.000 050\n",
+        "  gap\t0 0e9 .0 40  \r\ngap 0030.0 10. 150e-1 50\r\n",
+    ];
+    for rows in ways {
+        expect(rows, &script("ask", &["survey", "100"], rows.as_bytes()), 0, PLAN_A, &size);
+        expect("-q", &script("ask", &["-q", "survey", "100", "-"], rows.as_bytes()), 0, PLAN_A, "");
+    }
+    let folder = Folder::make();
+    let file = folder.put("rows", ROWS_A).into_os_string().into_string().expect("a plain name");
+    expect("a file", &script("ask", &["survey", "100", &file], b""), 0, PLAN_A, &size);
+    let one = script("ask", &["survey", "600"], b"gap 0.125 0 0 240\n");
+    expect("one row", &one, 0, "1 720 720 720 0\n0\n", "a cycle of 60 s, reds of 24 s, one signal\n");
+}
+
+#[test]
+fn a_line_that_is_no_row_is_named() {
+    let five = "and a row has five words: chainage or gap, the position, two speeds and the red\n";
+    let lines = [
+        ("", "line 2 is empty; delete it\n"),
+        ("gap 30 10 15", five),
+        ("gap 30 10 15 50 60", five),
+        ("30 10 15 50", "line 2 has \"30 10 15 50\", and a row starts with chainage or gap\n"),
+        ("Gap 30 10 15 50", "and a row starts with chainage or gap\n"),
+        ("gap 30,125 10 15 50", "and \"30,125\" is no number as an instrument shows it, such as 30.125\n"),
+        ("gap 30 0x1p3 15 50", "and \"0x1p3\" is no number"),
+        ("gap 30 10 15m/s 50", "and \"15m/s\" is no number"),
+        ("gap 30 10 . 50", "and \".\" is no number"),
+        ("gap 30 10 1e 50", "and \"1e\" is no number"),
+        ("gap 30 10 --15 50", "and \"--15\" is no number"),
+        ("gap 30 10 15 50.0", "and the red, \"50.0\", is no whole number of ticks\n"),
+        ("gap 30 10 15 -50", "and the red, \"-50\", is no whole number of ticks\n"),
+        ("gap 30 10 15 4294967296", "and the red is 4,294,967,296 or more\n"),
+        ("gap 30 10 15 99999999999", "and the red is 4,294,967,296 or more\n"),
+        ("gap 30 10 15 50\0", "line 2 has \"gap 30 10 15 50?\", and the red, \"50?\", is no whole number"),
+    ];
+    for (line, said) in lines {
+        let rows = format!("chainage 0 0 0 40\n{line}\ngap 1 1 1 50\n");
+        let ended = script("ask", &["survey", "100"], rows.as_bytes());
+        expect(line, &ended, 2, "", said);
+        assert!(ended.said.starts_with("ask: line 2 ") && ended.said.lines().count() == 1, "{ended:?}");
+    }
+    let long = script("ask", &["survey", "100"], "gap 1 1 1 50\n".repeat(700).as_bytes());
+    expect(
+        "too long",
+        &long,
+        2,
+        "",
+        "ask: the list of rows has more than 8,192 bytes, too many for 32 rows\n",
+    );
+}
+
+#[test]
+fn refused_rows_are_explained() {
+    let refusals = [
+        ("", "2 0", "no row came, and a street has 1 to 32 signals"),
+        ("gap 30.1 10 15 50", "12 2", "row 2 has \"gap 30.1 10 15 50\", and its gap, 30.1, is no whole multiple of 0.125"),
+        ("gap 30 0.1 15 50", "12 2", "and its outbound speed, 0.1, is no whole multiple of 0.125"),
+        ("gap 30 10 inf 50", "12 2", "and its inbound speed, inf, is not finite"),
+        ("gap 30 10 1e999 50", "12 2", "and its inbound speed, 1e999, is not finite"),
+        ("gap NaN 10 15 50", "12 2", "and its gap, NaN, is no number"),
+        ("chainage -0.125 10 15 50", "12 2", "and its chainage, -0.125, is below 0"),
+        ("chainage 20000.125 10 15 50", "12 2", "and its chainage, 20000.125, is above 20,000"),
+        ("gap 20000 10 15 50\ngap 0.125 1 1 1", "12 3", "row 3 has \"gap 0.125 1 1 1\", and its signal, at 20000.125 m, is more than 20,000 m from the origin"),
+        ("gap 30 10 15 100", "5 2", "and its red, the last number, is not from 1 to 99 ticks; the cycle is 100 ticks, 10 s"),
+        ("gap 0 10 15 50", "6 2", "and its signal, at 0 m from the origin, is not beyond that of row 1, at 0 m"),
+        ("gap 30.5 10 15 50\nchainage 20.125 10 15 50", "6 3", "and its signal, at 20.125 m from the origin, is not beyond that of row 2, at 30.5 m"),
+        ("gap 30 0.875 15 50", "7 1", "row 2 has \"gap 30 0.875 15 50\", and its outbound speed, 0.875, is not from 1 to 40 m/s"),
+        ("gap 30 10 -0 50", "7 1", "row 2 has \"gap 30 10 -0 50\", and its inbound speed, -0, is not from 1 to 40 m/s"),
+    ];
+    for (more, refused, said) in refusals {
+        let first = if more.is_empty() { "" } else { "chainage 0 0 0 40\n" };
+        let ended = script("ask", &["survey", "100"], format!("{first}{more}\n").trim_start().as_bytes());
+        expect(more, &ended, 1, &format!("refused {refused}\n"), &format!("{said}.\n"));
+        assert!(
+            ended.said.contains("ask: docs/RULES.md says what the rows of a survey may have"),
+            "{ended:?}"
+        );
+    }
+    let moving = script("ask", &["survey", "100"], b"chainage 0 0 1 40\n");
+    let said = "row 1 has \"chainage 0 0 1 40\", and the speeds of the first row must be 0, since no link ends there.\n";
+    expect("speeds", &moving, 1, "refused 12 1\n", said);
+    let cycle = script("ask", &["survey", "4294967295"], ROWS_A.as_bytes());
+    let said = "the cycle, 4294967295, is not from 10 to 6,000 ticks, tenths of a second.\n";
+    expect("a cycle", &cycle, 1, "refused 4 0\n", said);
+    let many = script("ask", &["survey", "100"], "gap 1 1 1 50\n".repeat(33).as_bytes());
+    expect("many", &many, 1, "refused 2 0\n", "33 rows came, and a street has 1 to 32 signals.\n");
+}
+
 #[test]
 fn a_sheet_is_written_as_it_stands_or_refused_as_its_plan_is() {
     let street_a = String::from_utf8_lossy(STREET_A);
@@ -315,7 +442,10 @@ fn the_typists_page_tells_how_to_check_a_sheet_that_came_back() {
 /// A folder with the scripts and no crate, and with a kit of its own, whose `rt` runs a line of sh.
 fn house(rt: &str) -> Folder {
     let folder = Folder::make();
-    for file in ["plan", "ask", "scripts/base.sh", "scripts/answer.sh", "scripts/sheet.awk", "crates.txt"] {
+    for file in ["plan", "ask", "crates.txt", "scripts/base.sh", "scripts/answer.sh"] {
+        folder.copy(file);
+    }
+    for file in ["scripts/words.awk", "scripts/sheet.awk", "scripts/rows.awk"] {
         folder.copy(file);
     }
     fs::create_dir(folder.0.join("crates")).expect("a folder for crates");

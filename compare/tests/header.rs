@@ -4,6 +4,7 @@ use compare::client::LARGEST_BYTES;
 use compare::page::Page;
 use compare::run::text;
 use compare::street::MAX_SIGNALS;
+use compare::survey::{CHAINAGE, GAP};
 use std::collections::BTreeSet;
 
 /// The names in a source that begin with `corbatan_` and are followed by a bracket.
@@ -44,7 +45,10 @@ fn every_code_of_the_rules_is_in_the_header() {
         let name = format!("CORBATAN_{}", row[1]);
         assert_eq!((row[0].parse(), defined(&header, &name)), (Ok(expected), Some(expected)), "{name}");
     }
-    assert_eq!(defined(&header, "CORBATAN_MAX_SIGNALS"), Some(MAX_SIGNALS));
+    let others = [("MAX_SIGNALS", MAX_SIGNALS as i64), ("CHAINAGE", CHAINAGE), ("GAP", GAP)];
+    for (name, number) in others {
+        assert_eq!(defined(&header, &format!("CORBATAN_{name}")), Some(number as usize), "{name}");
+    }
 }
 
 #[test]

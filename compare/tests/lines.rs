@@ -1,14 +1,18 @@
 //! From a refusal to its line: the slips that people make, typed into copies of the samples, and damaged sheets; and from
-//! refused volumes to the number at fault.
+//! refused volumes and refused rows to the number at fault. The numbers of rows become floats by awk, which is held to the
+//! bits of each.
 
 use compare::asks::volumes;
+use compare::equal::equal;
 use compare::moved::{plan, Ask};
 use compare::page::{sheet, street, Page};
 use compare::printed::plan_prints;
 use compare::random::Random;
-use compare::scripts::{ended, look, script, written_otherwise, Ended};
+use compare::rows::{typed, Survey, LIMITS};
+use compare::scripts::{converted, ended, look, look_at_rows, script, written_otherwise, Ended};
 use compare::sheet::{fault_line, number, read, LARGEST_SHEET};
 use compare::street::{Refusal, Street, MAX_SIGNALS};
+use compare::survey::{self, eighths, Row, CHAINAGE, EIGHTH, GAP};
 use compare::tally::Tally;
 use compare::trial::{in_parallel, Case};
 use compare::volumes::platoon;
@@ -417,4 +421,170 @@ fn volumes_that_are_refused_are_named_with_what_they_come_to() {
         Tally::of(&[("11 at 1", 10), ("11 at 2", 10), ("11 at 3", 5), ("8 at 1", 10), ("8 at 2", 5)]);
     told.iter().for_each(|Refusal { code, place }| tally.note(&format!("{code} at {place}"), true));
     tally.close();
+}
+
+/// A float of any bits, or of a size that an instrument shows.
+fn any_float(random: &mut Random) -> f64 {
+    let any = (random.below(1 << 32) << 32 | random.below(1 << 32)) as u64;
+    let (eighths, small) = (random.within(0, 160_016), any % (1 << 52));
+    let bits = random.pick(&[any, any, small, (any >> 12) | 0x40c0_0000_0000_0000]);
+    random.pick(&[f64::from_bits(bits), f64::from_bits(bits), eighths as f64 / 8.0])
+}
+
+/// A float in decimal, as it may be typed: with the fewest digits that tell it, with more, or with all that it has.
+fn in_decimal(random: &mut Random, float: f64) -> String {
+    match random.below(6) {
+        _ if !float.is_finite() => float.to_string().to_uppercase(),
+        0 => format!("{float:e}"),
+        1 => format!("{float:.20E}"),
+        2 => format!("{float:.25}"),
+        3 => format!("{float:+}"),
+        4 => format!("{float:025.3}"),
+        _ => format!("{float:?}"),
+    }
+}
+
+/// The ways to start an awk here.
+fn awks() -> Vec<&'static str> {
+    let found = |awk: &&str| {
+        let start = format!("{awk} 'BEGIN {{ exit 7 }}' </dev/null 2>/dev/null");
+        ended(Command::new("sh").args(["-c", &start]), b"").status == Some(7)
+    };
+    ["awk", "mawk", "gawk", "gawk --posix", "busybox awk", "original-awk"].into_iter().filter(found).collect()
+}
+
+#[test]
+fn every_number_becomes_the_bits_of_its_float() {
+    let random = &mut Random::new(12, 0);
+    let limits = LIMITS.iter().map(|limit| format!("{:?}", f64::from_bits(limit.1)));
+    let mut words: Vec<String> = limits.collect();
+    let fixed = "0 -0 +0 00 -000.0 007 010 0123 08 1. .5 -.5 1e3 1E+3 1e-3 0e5 00e5 2.4703282292062328e-324 1e400 -1e400 \
+                 1e-400 2.2250738585072011e-308 9007199254740993 0.1 INF -Infinity nan NaN -0.0625 0020000.1250";
+    words.extend(fixed.split_whitespace().map(str::to_string));
+    for _ in 0..6_000 {
+        let float = any_float(random);
+        words.push(in_decimal(random, float));
+    }
+    words.retain(|word| word != "-NAN");
+    let rows: String = words.chunks_exact(3).map(|three| format!("gap {} 50\n", three.join(" "))).collect();
+    let (expected, awks) = (String::from_utf8(typed(&rows)).expect("lines"), awks());
+    println!("{} numbers through {}", words.len(), awks.join(", "));
+    for awk in awks {
+        let lines = converted(awk, &rows);
+        for ((row, line), told) in rows.lines().zip(expected.lines()).zip(lines.lines()) {
+            assert_eq!(line, told, "{awk}, on {row}");
+        }
+        assert_eq!(lines.len(), expected.len(), "{awk}");
+    }
+}
+
+/// A row as it may be typed.
+fn typed_row(row: &Row) -> String {
+    let [position, outbound, inbound] = row.floats.map(f64::from_bits);
+    let kind = if row.kind == CHAINAGE { "chainage" } else { "gap" };
+    format!("{kind} {position:?} {outbound:?} {inbound:?} {}", row.red)
+}
+
+/// What is said of a float that is not accepted.
+fn about_float(bits: u64, name: &str) -> Option<String> {
+    let float = f64::from_bits(bits);
+    let told = match float {
+        _ if eighths(bits).is_some() => return None,
+        _ if float.is_nan() => "no number",
+        _ if float.is_infinite() => "not finite",
+        _ if float < 0.0 => "below 0",
+        _ if float > 20_000.0 => "above 20,000",
+        _ => "no whole multiple of 0.125",
+    };
+    Some(format!("its {name}, {float:?}, is {told}"))
+}
+
+/// What is said of a row that is refused by code 12, given the running distance before it.
+fn about_bad_row(row: &Row, before: i64) -> String {
+    let kind = if row.kind == CHAINAGE { "chainage" } else { "gap" };
+    let numbers = row.floats.into_iter().zip([kind, "outbound speed", "inbound speed"]);
+    if let Some(told) = numbers.into_iter().find_map(|(bits, name)| about_float(bits, name)) {
+        return told;
+    }
+    let distance = before + EIGHTH * eighths(row.floats[0]).expect("a number of eighths");
+    if row.kind == GAP && distance > 20_000_000 {
+        let metres = in_unit(distance, 1_000);
+        return format!("its signal, at {metres} m, is more than 20,000 m from the origin");
+    }
+    "the speeds of the first row must be 0, since no link ends there".to_string()
+}
+
+/// What is said of rows that are refused by a code from 5 to 7.
+fn about_street(street: &Street, rows: &[Row], code: i64, k: usize) -> String {
+    let metres = |k: usize| in_unit(street.distances[k], 1_000);
+    let cycle = street.cycle;
+    match code {
+        5 => {
+            let range = format!("its red, the last number, is not from 1 to {} ticks; ", cycle - 1);
+            range + &format!("the cycle is {}, {} s", counted(cycle, "tick"), in_unit(cycle, 10))
+        }
+        6 => {
+            let at = format!("its signal, at {} m from the origin, ", metres(k));
+            at + &format!("is not beyond that of row {k}, at {} m", metres(k - 1))
+        }
+        _ => {
+            let slow = |speed: i64| !(1_000..=40_000).contains(&speed);
+            let f = if slow(street.outbound[k - 1]) { 1 } else { 2 };
+            let (name, speed) = (["outbound", "inbound"][f - 1], f64::from_bits(rows[k].floats[f]));
+            format!("its {name} speed, {speed:?}, is not from 1 to 40 m/s")
+        }
+    }
+}
+
+/// What is to be said of a survey with the code and place of its refusal, both 0 where it has a plan.
+fn about_rows(Survey { cycle, rows }: &Survey) -> (Refusal, String) {
+    let street = survey::street(*cycle, rows);
+    let refusal = match street.clone().and_then(|street| equal(&street, MAX_SIGNALS)) {
+        Ok(_) => return (Refusal { code: 0, place: 0 }, size(&street.expect("a planned street"))),
+        Err(refusal) => refusal,
+    };
+    let Refusal { code, place } = refusal;
+    let k = place as usize - usize::from(code != 7 && place > 0);
+    let told = match (code, street) {
+        (2, _) if rows.is_empty() => "no row came, and a street has 1 to 32 signals".to_string(),
+        (2, _) => format!("{} rows came, and a street has 1 to 32 signals", rows.len()),
+        (4, _) => format!("the cycle, {cycle}, is not from 10 to 6,000 ticks, tenths of a second"),
+        (12, _) => {
+            let before = survey::street(*cycle, &rows[..k]).map_or(0, |street| street.distances[k - 1]);
+            about_bad_row(&rows[k], before)
+        }
+        (_, street) => about_street(&street.expect("a judged street"), rows, code, k),
+    };
+    let row = if [2, 4].contains(&code) {
+        String::new()
+    } else {
+        let line = typed_row(&rows[k]);
+        let shown = if line.len() > 60 { format!("{}...", &line[..60]) } else { line };
+        format!("row {} has \"{shown}\", and ", k + 1)
+    };
+    (refusal, format!("refused, code {code}: {row}{told}.\n"))
+}
+
+#[test]
+fn rows_that_are_refused_are_named_with_the_number_at_fault() {
+    let surveys: Vec<Survey> = (0..1_500).map(|k| Survey::random(&mut Random::new(13, k))).collect();
+    let codes = in_parallel(&surveys, |survey| {
+        let text: String = survey.rows.iter().map(|row| typed_row(row) + "\n").collect();
+        let (Refusal { code, place }, told) = about_rows(survey);
+        let request = format!("survey {}", survey.cycle);
+        assert_eq!(look_at_rows(&text, code, place, &request), told, "{request} {text}");
+        assert_eq!(converted("awk", &text).as_bytes(), typed(&text), "{text}");
+        // A row that nothing is wrong with is not named.
+        if code == 0 {
+            let other = look_at_rows(&text, 12, 1, &request);
+            assert_eq!(other, "refused, code 12, place 1.\n", "{text}");
+        }
+        Some(code)
+    });
+    let wanted = [(0, 300), (2, 15), (4, 10), (5, 30), (6, 30), (7, 50), (12, 400)];
+    for (code, least) in wanted {
+        let met = codes.iter().filter(|&&met| met == code).count();
+        println!("{met:5} with code {code}");
+        assert!(met >= least, "{met} with code {code}");
+    }
 }

@@ -12,10 +12,12 @@ use compare::paper::{
 };
 use compare::paper::{LINKS, PARTS, REPLIES, SIGNALS, TWO_SECONDS};
 use compare::printed::{plan_prints, printed};
+use compare::rows::typed;
 use compare::run::Program;
 use compare::sheet::{read, write, LARGEST_SHEET};
 use compare::street::{link_time, Street, Times, CYCLE, MAX_SIGNALS};
 use compare::streets::greatest;
+use compare::survey;
 use compare::volumes::{fitting, platoon, HEADWAY, MAX_VOLUME, PER_HALF};
 use std::collections::BTreeSet;
 
@@ -59,7 +61,7 @@ fn the_typists_sheets_get_what_the_page_says() {
     }
 }
 
-/// The rows of the examples' page: the request and the sheet as one case, and the reply.
+/// The rows of the examples' page: the request and the sheet, or a survey's rows, as one case, and the reply.
 fn examples() -> Vec<(Vec<u8>, String)> {
     let page = Page::open("EXAMPLES.md");
     let example = |line: &str| {
@@ -68,13 +70,15 @@ fn examples() -> Vec<(Vec<u8>, String)> {
         let (name, asked) = (words.next().expect("a sheet"), words.next().expect("a request"));
         ([asked.as_bytes(), &sheet(name.trim_end())].concat(), words.collect())
     };
-    page.lines("| Row | Sheet | Asked | Reply |").into_iter().map(example).collect()
+    let survey = |[rows, asked, reply]: [String; 3]| ([asked.as_bytes(), &typed(&rows)].concat(), reply);
+    let sheets = page.lines("| Row | Sheet | Asked | Reply |").into_iter().map(example);
+    sheets.chain(page.surveys().into_iter().map(survey)).collect()
 }
 
 #[test]
 fn the_examples_come_out() {
     let examples = examples();
-    assert_eq!(examples.len(), 35);
+    assert_eq!(examples.len(), 35 + 11);
     let bytes = input(&examples.iter().map(|(case, _)| case).collect::<Vec<_>>());
     let expected: String = examples.iter().map(|(_, reply)| format!("{reply}\n")).collect();
     assert_eq!(output(&bytes), expected, "the model");
@@ -125,6 +129,36 @@ fn the_examples_show_how_volumes_become_platoons() {
         format!("3,000 come to {longest} halves, and 3,001 to {longer}, which is too long a platoon."),
     ];
     told.iter().for_each(|sentence| Page::open("EXAMPLES.md").says(sentence));
+}
+
+#[test]
+fn the_examples_show_how_rows_become_a_street() {
+    let page = Page::open("EXAMPLES.md");
+    let surveys = page.surveys();
+    let became = |k: usize, cycle: i64| {
+        let rows = survey::rows(&typed(&surveys[k][0])).expect("rows");
+        survey::street(cycle, &rows)
+    };
+    let [a, moved] = [0, 1].map(|k| became(k, 100).expect("a street"));
+    assert_eq!(a, street("street-a.txt"));
+    assert_eq!(moved, Street { distances: vec![50_000, 80_000], ..a.clone() });
+    let (eighth, row_9) = (became(2, 10).expect("a street"), street("row-9-rounded-times.txt"));
+    assert_eq!(equal(&eighth, MAX_SIGNALS), equal(&row_9, MAX_SIGNALS));
+    let (gap, speed) = (eighth.distances[1], eighth.outbound[0]);
+    let ticks = decimal(10 * i128::from(gap), speed.into(), 2);
+    let told = [
+        format!("{} mm, {} mm/s and {} mm/s, and so", a.distances[1], a.outbound[0], a.inbound[0]),
+        format!(
+            "An eighth of a metre is {gap} mm; at 1 m/s it takes {ticks} ticks, rounded to {}",
+            whole_way(&eighth)
+        ),
+        "the last signal is 20,000.125 m from the origin".to_string(),
+    ];
+    told.iter().for_each(|sentence| page.says(sentence));
+    assert_eq!(became(7, 9).expect_err("a bad row").place, 3);
+    let first = surveys[0][0].replace('\n', "\\n");
+    let command = format!("    printf '{first}' | ./ask {}", surveys[0][1]);
+    assert!(page.text.contains(&command), "the page has no {command}");
 }
 
 #[test]

@@ -23,7 +23,7 @@ fn case(request: &str, sheet: &[u8]) -> Vec<u8> {
 fn the_crates_own_cases_get_what_stands_beside_them() {
     let (asked, replies) = (text("crates/cases/stdin"), text("crates/cases/stdout"));
     expect(&Program::cases(), asked.as_bytes(), &replies);
-    for word in ["equal", "outbound", "inbound", "platoons", "volumes", "measure", "write"] {
+    for word in ["equal", "outbound", "inbound", "platoons", "volumes", "measure", "write", "survey"] {
         assert!(asked.split('\0').any(|case| case.starts_with(word)), "no case asks for {word}");
     }
 }

@@ -75,8 +75,8 @@ module _ (l : Lists) (offsets : List ℕ) where
   measure-refused f e r =
       sym (ap (λ v. foundOr v (measuredOf (timed l) offsets)) (checks-full l offsets e ∙ ap (λ v. orNext v (offsetCheck (l .cycle) offsets)) r))
 
-  pub measure-surveyed : (s : Street) (r : Measurement) → length offsets ≡ signals l → planChecks l (signals l) ≡ verdict.Passed → s ≡ streetOf l → r ≡ foundOr (offsetCheck (s .cycle) offsets) (measuredOf (timedStreet s) offsets) → r ≡ measurementOf l offsets
-  measure-surveyed s r e passed is answer =
+  pub measure-built : (s : Street) (r : Measurement) → length offsets ≡ signals l → planChecks l (signals l) ≡ verdict.Passed → s ≡ streetOf l → r ≡ foundOr (offsetCheck (s .cycle) offsets) (measuredOf (timedStreet s) offsets) → r ≡ measurementOf l offsets
+  measure-built s r e passed is answer =
       answer
       ∙ ap (λ x. foundOr (offsetCheck (x .cycle) offsets) (measuredOf (timedStreet x) offsets)) is
       ∙ ap (foundOr (offsetCheck (l .cycle) offsets)) (measured-agree l (signals l) offsets passed)

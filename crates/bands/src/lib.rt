@@ -119,12 +119,12 @@ pub fn measure(
             place: 0,
         });
     }
-    let surveyed = Street::new(cycle, reds, distances, outbound, inbound, reds.len());
-    let verdict = surveyed.verdict;
+    let built = Street::new(cycle, reds, distances, outbound, inbound, reds.len());
+    let verdict = built.verdict;
     match verdict {
         Verdict::Refused(f) => Measurement::Refused(f),
         Verdict::Passed => {
-            let s = surveyed.street;
+            let s = built.street;
             on_street(s, offsets)
         }
     }

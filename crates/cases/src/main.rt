@@ -1,5 +1,5 @@
 // A program for tests: many requests on standard input, the reply to each on standard output with an empty line after it. Requests are
-// separated by a byte 0, and each is a request line and then a sheet's bytes. A request that is not served is a `bad request`.
+// separated by a byte 0, and each is a request line and then a sheet's bytes, or a survey's rows. A request that is not served is a `bad request`.
 use bands::Measurement;
 use lines::Call;
 use lines::Line;
@@ -10,6 +10,7 @@ use sheet::Sheet;
 use street::Refusal;
 use street::Street;
 use street::Verdict;
+use survey::Row;
 use writer::Writing;
 ghost use Prim.Native.Nat.{_≤_};
 ghost use mathlib.Core.Path.{_≡_};
@@ -165,6 +166,36 @@ fn on_sheet(bytes: &[u8], call: Call, line: Line)
     }
 }
 
+// The equal plan of some rows, or their refusal. Rows past the most that a street can have are counted and not kept.
+fn surveyed(bytes: &[u8], cycle: u32, room: usize) {
+    let mut rows = [Row::of_bits(0, 0, 0, 0, 0); Street::MAX_SIGNALS];
+    let mut count: usize = 0;
+    let mut at: usize = 0;
+    while at < bytes.len() {
+        let line = lines::row_at(bytes, at);
+        let next = line.at;
+        if next <= at {
+            put(b"bad request\n");
+            return;
+        }
+        if count < Street::MAX_SIGNALS {
+            rows[count] = Row::of_bits(
+                line.kind,
+                line.position,
+                line.outbound,
+                line.inbound,
+                line.red,
+            );
+        }
+        count += 1;
+        at = next;
+    }
+    let mut offsets = [0u32; Street::MAX_SIGNALS];
+    let k = printed::lent(room);
+    let answer = survey::plan_for(Request::Equal, cycle, rows, count, &mut offsets[..k]);
+    show(printed::answer_text(answer, count, offsets));
+}
+
 // The reply to a case, with its empty line.
 fn reply(case: &[u8]) {
     let asked = lines::request(case);
@@ -173,6 +204,8 @@ fn reply(case: &[u8]) {
     let at = line.at;
     if let Call::Bad = call {
         put(b"bad request\n");
+    } else if let Call::Survey(cycle) = call {
+        surveyed(&case[at..], cycle, line.room);
     } else {
         on_sheet(&case[at..], call, line);
     }

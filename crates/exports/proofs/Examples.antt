@@ -2,11 +2,13 @@
 use mathlib.Core.Path.{_≡_, refl}
 use mathlib.Core.List.{[], _∷_}
 use lib.IntN.{pos, negsuc}
-use Rattle.street.specs.declared.Code.the-variants.{Speed, Offset}
+use lib.ListN.{replicate}
+use Rattle.street.specs.declared.Code.the-variants.{Speed, Offset, Survey}
 use Rattle.writer.specs.declared.Writing.the-variants as writing
 use Rattle.plans.specs.declared.Answer.the-variants as answer
 use Rattle.bands.specs.declared.Measurement.the-variants as measurement
-use Rattle.exports.specs.Flat.{flatPlan, flatCarried, flatMeasure, flatWriting, flatText}
+use Rattle.survey.specs.Typing.{noReading}
+use Rattle.exports.specs.Flat.{flatPlan, flatCarried, flatMeasure, flatReading, flatWriting, flatText}
 
 plan :
     flatPlan (answer.Planned (record { reference = 2; b = negsuc 99; outbound = 200; inbound = 3; rounded = 1; starts = 5; ends = 15 }))
@@ -36,6 +38,21 @@ unmeasured :
     flatMeasure (measurement.Refused (record { code = Offset; place = 2 }))
     ≡ record { code = 10; place = 2; «outbound_width» = 0; «outbound_start» = 0; «inbound_width» = 0; «inbound_start» = 0 }
 unmeasured = refl
+
+-- a survey whose row 3 is bad: its place goes over to C, and every number is 0
+unread :
+    flatReading (noReading (record { code = Survey; place = 3 }))
+    ≡ record {
+      code = 12;
+      place = 3;
+      signals = 0;
+      cycle = 0;
+      reds = replicate 32 0;
+      distances = replicate 32 0;
+      outbound = replicate 32 0;
+      inbound = replicate 32 0;
+    }
+unread = refl
 
 sheet : flatWriting (writing.Wrote 36) ≡ record { code = 0; place = 0; count = 36 }
 sheet = refl

@@ -6,8 +6,7 @@ use lib.IntN.{ℤ}
 use Rattle.street.specs.Codes.{codeNumber, codeOf, placeOf}
 use Rattle.street.specs.Lists.{Lists}
 use Rattle.street.specs.declared.Refusal.{Refusal}
-use Rattle.sheet.specs.declared.Head.{Head}
-use Rattle.sheet.specs.Steps.Filled.{assembled}
+use Rattle.sheet.specs.declared.Reading.{Reading}
 use Rattle.writer.specs.declared.Writing.the-variants as writing
 use Rattle.plans.specs.Answers.{noPlan}
 use Rattle.plans.specs.Requests as plans
@@ -58,8 +57,6 @@ writing-refused f code e = ap (λ k. writingFields (record { code = k; place = f
 pub requested-flat : (asked : Request) (l : Lists) (entry exit : List ℕ) (a : Answer) (r : CorbatanPlan) → plans.Requested asked l entry exit a → r ≡ flatPlan a → FlatRequested asked l entry exit r
 requested-flat asked l entry exit a r found e = record { reply = e ∙ ap flatPlan (found .reply); after = found .after }
 
--- a reading by its head and its columns, with the head's verdict in numbers
-pub reading-flat :
-    (h : Head) (reds distances outbound inbound : List ℕ) (code place : ℕ) → code ≡ codeOf (h .verdict) → place ≡ placeOf (h .verdict) →
-    flatSheet code place (assembled h reds distances outbound inbound .sheet) ≡ flatReading (assembled h reds distances outbound inbound)
-reading-flat h reds distances outbound inbound code place k q = ap₂ (λ n p. flatSheet n p (assembled h reds distances outbound inbound .sheet)) k q
+-- a reading with its verdict in numbers
+pub reading-flat : (r : Reading) (code place : ℕ) → code ≡ codeOf (r .verdict) → place ≡ placeOf (r .verdict) → flatSheet code place (r .sheet) ≡ flatReading r
+reading-flat r code place k q = ap₂ (λ n p. flatSheet n p (r .sheet)) k q

@@ -2,6 +2,7 @@
 use Prim.Native.Nat.{ℕ}
 use mathlib.Core.Path.{_≡_, sym, ap, _∙_}
 use mathlib.Core.List.{List}
+use lib.Ieee.{Float}
 use Rattle.road.specs.Limits.{maxSignals}
 use Rattle.street.specs.Lists.{Lists}
 use Rattle.street.proofs.Unique.{Same, same}
@@ -9,6 +10,7 @@ use Rattle.sheet.proofs.Unique as sheet
 use Rattle.widths.specs.declared.Request.{Request}
 use Rattle.plans.proofs.Unique.{carries-unique}
 use Rattle.bands.specs.Measure.{measurementOf}
+use Rattle.survey.specs.Typing.{listsReading}
 use Rattle.printed.proofs.Unique.{prints-answer-unique}
 use Rattle.exports.specs.declared.CorbatanPlan.{CorbatanPlan}
 use Rattle.exports.specs.declared.CorbatanVolumes.{CorbatanVolumes}
@@ -34,6 +36,9 @@ measure-unique l offsets r r′ one other = one ∙ sym other
 pub read-unique : (bytes : List ℕ) (r r′ : CorbatanSheet) → FlatReads bytes r → FlatReads bytes r′ → r ≡ r′
 read-unique bytes r r′ one other =
     one .reply ∙ ap flatReading (sheet.read-unique bytes (one .reading) (other .reading) (one .reads) (other .reads)) ∙ sym (other .reply)
+
+pub survey-unique : (cycle : ℕ) (kinds : List ℕ) (positions outbound inbound : List Float) (reds : List ℕ) (r r′ : CorbatanSheet) → r ≡ flatReading (listsReading cycle kinds positions outbound inbound reds) → r′ ≡ flatReading (listsReading cycle kinds positions outbound inbound reds) → r ≡ r′
+survey-unique cycle kinds positions outbound inbound reds r r′ one other = one ∙ sym other
 
 pub write-unique : (l : Lists) (entry exit exit′ : List ℕ) (r r′ : CorbatanWriting) → FlatWrites l entry exit r → FlatWrites l entry exit′ r′ → Same r r′ exit exit′
 write-unique l entry exit exit′ r r′ one other = same (one .reply) (other .reply) (one .after) (other .after)

@@ -5,6 +5,7 @@ use plans::Answer;
 use plans::Carried;
 use plans::Request;
 use printed::Printed;
+use sheet::Reading;
 use street::Street;
 use street::Verdict;
 use street::code_number;
@@ -14,7 +15,8 @@ ghost use Rattle.street.specs.Codes.{codeOf, placeOf};
 ghost use Rattle.street.specs.Lists.{typed};
 ghost use Rattle.widths.specs.declared.Request.the-variants.{Equal, Outbound, Inbound, Platoons};
 ghost use Rattle.bands.specs.Measure.{measurementOf};
-ghost use Rattle.exports.specs.Flat.{flatPlan, flatCarried, flatMeasure, flatWriting};
+ghost use Rattle.survey.specs.Typing.{listsReading};
+ghost use Rattle.exports.specs.Flat.{flatPlan, flatCarried, flatMeasure, flatReading, flatWriting};
 ghost use Rattle.exports.specs.Calls.{FlatRequested, FlatCarries, FlatReads, FlatWrites, FlatPrints};
 
 // A plan's numbers or a refusal's, with document 01's number for the refusal. Widths, B and instants are in halves.
@@ -188,6 +190,29 @@ fn numbered(verdict: Verdict) -> Mark
                 place: f.place,
             }
         }
+    }
+}
+
+// A reading's numbers, or a refusal's.
+fn read_as(reading: Reading) -> CorbatanSheet
+    ensures { λ r. ⌜ r ≡ flatReading reading ⌝ }
+{
+    let verdict = reading.verdict;
+    let numbers = numbered(verdict);
+    let s = reading.sheet;
+    let reds = s.reds;
+    let distances = s.distances;
+    let outbound = s.outbound;
+    let inbound = s.inbound;
+    CorbatanSheet {
+        code: numbers.code,
+        place: numbers.place,
+        signals: s.signals,
+        cycle: s.cycle,
+        reds,
+        distances,
+        outbound,
+        inbound,
     }
 }
 
@@ -373,6 +398,21 @@ pub extern "C" fn corbatan_read(bytes: &[u8]) -> CorbatanSheet
         outbound,
         inbound,
     }
+}
+
+// The numbers of a survey's rows, each column in a list of its own with an entry for each row (02, 2026-04).
+#[no_mangle]
+pub extern "C" fn corbatan_survey(
+    cycle: u32,
+    kinds: &[u32],
+    positions: &[f64],
+    outbound: &[f64],
+    inbound: &[f64],
+    reds: &[u32],
+) -> CorbatanSheet
+    ensures { λ r. ⌜ r ≡ flatReading (listsReading cycle (now (kinds .entry)) (now (positions .entry)) (now (outbound .entry)) (now (inbound .entry)) (now (reds .entry))) ⌝ }
+{
+    read_as(survey::read_lists(cycle, kinds, positions, outbound, inbound, reds))
 }
 
 // The sheet of a street in the first bytes of the lent list; a refusal leaves the list as it was.

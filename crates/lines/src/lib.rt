@@ -1,4 +1,4 @@
-// A request line: what it asks for, and how long a list is lent, of offsets or of bytes.
+// A request line: what it asks for, and how long a list is lent, of offsets or of bytes; and the lines of a survey's rows.
 use street::Street;
 use widths::Request;
 ghost use Prim.Native.Nat.{_≤_};
@@ -6,12 +6,14 @@ ghost use lib.ListN.{length};
 ghost use mathlib.Core.Path.{_≡_};
 ghost use Rattle.lines.specs.Steps.{maxEntries, maxRoom};
 
-// What a line asks for: a plan, the measure of its numbers as offsets, or the sheet's own bytes. A line that is not served is bad.
+// What a line asks for: a plan, the measure of its numbers as offsets, the sheet's own bytes, or the plan of rows at a cycle. A line that
+// is not served is bad.
 pub enum Call {
     Bad,
     Plan(Request),
     Measure,
     Write,
+    Survey(u32),
 }
 
 // A request line from its word on: whether it is formed as it should be, how many entries are lent, its numbers, of which the first
@@ -55,6 +57,24 @@ struct Listed {
 struct Digits {
     good: bool,
     value: u32,
+    at: usize,
+}
+
+// A row of a survey from its line: the kind of its position, 0 for a chainage and 1 for a gap, the bits of its position and of its two
+// speeds, its red, and where the next line starts, or 0 where the line is no row's.
+pub struct RowLine {
+    pub kind: u32,
+    pub position: u64,
+    pub outbound: u64,
+    pub inbound: u64,
+    pub red: u32,
+    pub at: usize,
+}
+
+// A float's bits, or none: whether they are there, and where they end.
+struct Pattern {
+    good: bool,
+    value: u64,
     at: usize,
 }
 
@@ -300,5 +320,93 @@ pub fn request(case: &[u8]) -> Asked
     if write > 0 {
         return with_call(line_from(case, write, 0, 0, Lent::Bytes), Call::Write);
     }
+    let survey = past(case, 0, b"survey");
+    if survey > 0 {
+        let rest = line_from(case, survey, 1, 1, Lent::Offsets);
+        let numbers = rest.numbers;
+        return with_call(rest, Call::Survey(numbers[0]));
+    }
     plan_asked(case)
+}
+
+// What a hexadecimal digit stands for, its letters being small ones; 16 for any other byte.
+fn digit(byte: u8) -> u64
+    ensures { λ r. ⌜ r ≤ 16 ⌝ }
+{
+    match byte {
+        48..=57 => (byte - 48) as u64,
+        97..=102 => (byte - 87) as u64,
+        _ => 16,
+    }
+}
+
+// The bits of a float after one space: 16 hexadecimal digits, or the word for a NaN.
+fn pattern_at(bytes: &[u8], from: usize) -> Pattern
+    requires { ⌜ from ≤ length (now bytes) ⌝ }
+    ensures { λ r. ⌜ r .at ≤ length (now (bytes .entry)) ⌝ }
+{
+    let word = past(bytes, from, b" nan");
+    if word > 0 {
+        return Pattern {
+            good: true,
+            value: 0x7ff8_0000_0000_0000,
+            at: word,
+        };
+    }
+    let start = past(bytes, from, b" ");
+    let mut value: u64 = 0;
+    let mut at = start;
+    while at < bytes.len() {
+        let nibble = digit(bytes[at]);
+        if nibble > 15 {
+            break;
+        }
+        if at - start > 15 {
+            break;
+        }
+        value = (value << 4) | nibble;
+        at += 1;
+    }
+    Pattern {
+        good: start > 0 && at - start == 16,
+        value,
+        at,
+    }
+}
+
+// Past the word for a row's position, and else 0.
+fn past_kind(bytes: &[u8], at: usize) -> usize
+    requires { ⌜ at ≤ length (now bytes) ⌝ }
+    ensures { λ r. ⌜ r ≤ length (now (bytes .entry)) ⌝ }
+{
+    let chainage = past(bytes, at, b"chainage");
+    if chainage > 0 {
+        return chainage;
+    }
+    past(bytes, at, b"gap")
+}
+
+// The row that stands at an index, with its line end.
+pub fn row_at(bytes: &[u8], from: usize) -> RowLine
+    requires { ⌜ from ≤ length (now bytes) ⌝ }
+    ensures { λ r. ⌜ r .at ≤ length (now (bytes .entry)) ⌝ }
+{
+    let gap = past(bytes, from, b"gap");
+    let named = past_kind(bytes, from);
+    let position = pattern_at(bytes, named);
+    let outbound = pattern_at(bytes, position.at);
+    let inbound = pattern_at(bytes, outbound.at);
+    let spaced = past(bytes, inbound.at, b" ");
+    let red = digits_at(bytes, spaced);
+    let end = past(bytes, red.at, b"\n");
+    let floats = position.good && outbound.good && inbound.good;
+    let whole = named > 0 && floats && spaced > 0 && red.good;
+    RowLine {
+        kind: (gap > 0) as u32,
+        position: position.value,
+        outbound: outbound.value,
+        inbound: inbound.value,
+        red: red.value,
+        at: if whole { end } else { 0 },
+    }
 }

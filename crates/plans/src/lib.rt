@@ -83,12 +83,12 @@ pub fn plan_for(
 ) -> Answer
     ensures { λ r. ⌜ Requested request (typed cycle (now (reds .entry)) (now (distances .entry)) (now (outbound .entry)) (now (inbound .entry))) (now (offsets .entry)) (now (offsets .exit)) r ⌝ }
 {
-    let surveyed = Street::new(cycle, reds, distances, outbound, inbound, offsets.len());
-    let verdict = surveyed.verdict;
+    let built = Street::new(cycle, reds, distances, outbound, inbound, offsets.len());
+    let verdict = built.verdict;
     if let Verdict::Refused(f) = verdict {
         return Answer::Refused(f);
     }
-    let s = surveyed.street;
+    let s = built.street;
     let road = s.road;
     let n = road.signals;
     let stops = s.reds;

@@ -31,7 +31,7 @@ ExactBest l (best-is v) =
     × ((N : ℕ) → Fine l N → NoneBetter Unmoved (exactWays l N) v v 0)
 
 -- a street and a request, with the answer and the offsets that they are to get
-pub record Row : Type 0 where
+pub record TableRow : Type 0 where
   pub street : Lists
   pub request : Request
   pub expected : Answer
@@ -42,13 +42,13 @@ unfoldable pub lent : List ℕ
 lent = 7 ∷ 7 ∷ 7 ∷ []
 
 -- what the contract says of the reply, and of the lent list
-unfoldable pub Holds : Row → Type 0
+unfoldable pub Holds : TableRow → Type 0
 Holds row =
     (requestAnswer (row .request) (row .street) (length lent) ≡ row .expected)
     × (requestAfter (row .request) (row .street) lent ≡ row .offsets)
     × ExactBest (row .street) (row .best)
 
-unfoldable pub All : List Row → Type 0
+unfoldable pub All : List TableRow → Type 0
 All [] = Unit
 All (row ∷ rows) = Holds row × All rows
 
@@ -70,12 +70,12 @@ plan c B out back m starts ends =
     Planned
     (record { reference = c; b = B; outbound = out; inbound = back; rounded = m; starts = starts; ends = ends })
 
-unfoldable pub row : Lists → Request → Answer → List ℕ → Row
+unfoldable pub row : Lists → Request → Answer → List ℕ → TableRow
 row l request expected offsets =
     record { street = l; request = request; expected = expected; offsets = offsets; best = unnamed }
 
 -- a row that names an exact best too
-unfoldable pub best-row : Lists → Request → Answer → List ℕ → ℕ → Row
+unfoldable pub best-row : Lists → Request → Answer → List ℕ → ℕ → TableRow
 best-row l request expected offsets v =
     record { street = l; request = request; expected = expected; offsets = offsets; best = best-is v }
 
@@ -83,7 +83,7 @@ unfoldable pub refusal : Code → ℕ → Answer
 refusal code place = Refused (record { code = code; place = place })
 
 -- the equal plans of rows 1 to 5, 9 and street A
-unfoldable pub equal-rows : List Row
+unfoldable pub equal-rows : List TableRow
 equal-rows =
     row (record { cycle = 600; reds = 240 ∷ []; distances = 0 ∷ []; outbound = []; inbound = [] }) Equal (plan 1 (pos 720) 720 720 0 240 960) (0 ∷ 7 ∷ 7 ∷ [])
     ∷ row (twoAlike 600 300 30000) Equal (plan 1 (pos 600) 600 600 0 300 900) (0 ∷ 600 ∷ 7 ∷ [])
@@ -95,7 +95,7 @@ equal-rows =
     ∷ []
 
 -- travel times to the nearest tick, one half up, each link by itself: 49 mm at 1,000 mm/s take no tick, 50 mm (row 9) take 1, and two links of 50 mm take 2
-unfoldable pub rounding-rows : List Row
+unfoldable pub rounding-rows : List TableRow
 rounding-rows =
     row (twoAlike 10 5 49) Equal (plan 1 (pos 10) 10 10 1 5 15) (0 ∷ 0 ∷ 7 ∷ [])
     ∷ row
@@ -104,7 +104,7 @@ rounding-rows =
     ∷ []
 
 -- rows 6 to 8 and 10
-unfoldable pub width-rows : List Row
+unfoldable pub width-rows : List TableRow
 width-rows =
     row streetA (Outbound 80) (plan 1 (pos 60) 80 40 0 20 140) (180 ∷ 10 ∷ 7 ∷ [])
     ∷ row streetA (Inbound 80) (plan 1 (pos 60) 40 80 0 40 160) (0 ∷ 190 ∷ 7 ∷ [])
@@ -121,7 +121,7 @@ unfoldable pub schoolStreet : Lists
 schoolStreet = twoAlike 600 400 15000
 
 -- rows 11 to 13, platoons the other way round and equal ones, the school street's both ways, and the limit
-unfoldable pub platoon-rows : List Row
+unfoldable pub platoon-rows : List TableRow
 platoon-rows =
     row streetA (Platoons 30 10) (plan 1 (pos 60) 90 30 0 10 130) (170 ∷ 10 ∷ 7 ∷ [])
     ∷ row streetA (Platoons 100 50) (plan 1 (pos 60) 100 20 0 0 120) (160 ∷ 10 ∷ 7 ∷ [])
@@ -140,7 +140,7 @@ longCycle = record { cycle = 6000; reds = 3000 ∷ []; distances = 0 ∷ []; out
 
 -- volumes (02, 2026-03): on street A nine vehicles an hour, 2 s apart, are a half, on the school street one, 3 s apart. Platoons of 89 and 34, row 11's own, two that come to the same length, the school street's
 -- own, and one too long; and the limits in their order
-unfoldable pub volume-rows : List Row
+unfoldable pub volume-rows : List TableRow
 volume-rows =
     row streetA (Volumes 800 300 20) (plan 1 (pos 60) 89 31 0 11 131) (171 ∷ 10 ∷ 7 ∷ [])
     ∷ row streetA (Volumes 270 90 20) (plan 1 (pos 60) 90 30 0 10 130) (170 ∷ 10 ∷ 7 ∷ [])
@@ -154,5 +154,5 @@ volume-rows =
     ∷ row streetA (Volumes 0 0 101) (refusal Volume 3) lent
     ∷ []
 
-unfoldable pub rows : List Row
+unfoldable pub rows : List TableRow
 rows = equal-rows ++ (rounding-rows ++ (width-rows ++ (platoon-rows ++ volume-rows)))

@@ -11,6 +11,7 @@ use Rattle.street.specs.Lists.{Lists, signals}
 use Rattle.street.specs.Checks.{refuse}
 use Rattle.street.specs.declared.Code.{Code}
 use Rattle.street.specs.declared.Verdict.the-variants.{Passed}
+use Rattle.street.proofs.CheckLaws.{Counted}
 use Rattle.sheet.specs.Form.{Writable}
 use Rattle.sheet.specs.Reading.{inArray, sheetOf, listsOf, refusing, Reads}
 use Rattle.sheet.specs.Steps.Held.{Held}
@@ -30,10 +31,10 @@ unfolding zeros
 length-in-array xs l =
     omega (arith, length-append xs (drop (length xs) zeros), length-drop (length xs) zeros, length-replicate {A = ℕ} maxSignals 0)
 
-module _ (l : Lists) (ok : Writable l) where
-  -- the lists that were read
-  pub lists-back : listsOf (sheetOf l) ≡ l
-  lists-back =
+-- lists of a street's lengths, each column in its array
+module _ (l : Lists) (ok : Counted (signals l) (length (l .distances)) (length (l .outbound)) (length (l .inbound))) where
+  pub lists-whole : listsOf (sheetOf l) ≡ l
+  lists-whole =
       λ i.
       record {
         cycle = l .cycle;
@@ -43,16 +44,31 @@ module _ (l : Lists) (ok : Writable l) where
         inbound = take-in-array (signals l - 1) (l .inbound) (ok .inbound) i;
       }
 
-  held : Held (sheetOf l)
-  held =
+  pub lists-held : Held (sheetOf l)
+  lists-held =
       record {
-        some = ok .some;
-        few = ok .few;
-        reds = length-in-array (l .reds) (ok .few);
-        distances = length-in-array (l .distances) (omega (arith, ok .few, ok .distances));
-        outbound = length-in-array (l .outbound) (omega (arith, ok .few, ok .outbound));
-        inbound = length-in-array (l .inbound) (omega (arith, ok .few, ok .inbound));
+        some = ok .least;
+        few = ok .most;
+        reds = length-in-array (l .reds) (ok .most);
+        distances = length-in-array (l .distances) (omega (arith, ok .most, ok .distances));
+        outbound = length-in-array (l .outbound) (omega (arith, ok .most, ok .outbound));
+        inbound = length-in-array (l .inbound) (omega (arith, ok .most, ok .inbound));
       }
+
+-- the streets that a sheet can hold are such lists
+writable-counted : (l : Lists) → Writable l → Counted (signals l) (length (l .distances)) (length (l .outbound)) (length (l .inbound))
+writable-counted l ok =
+    record {
+      least = ok .some;
+      most = ok .few;
+      distances = ok .distances;
+      outbound = ok .outbound;
+      inbound = ok .inbound;
+    }
+
+-- the lists that were read
+pub lists-back : (l : Lists) → Writable l → listsOf (sheetOf l) ≡ l
+lists-back l ok = lists-whole l (writable-counted l ok)
 
 -- a refusal is no street's numbers
 pub not-passing : {r : Reading} (c : Code) → r .verdict ≡ Passed → r ≡ refusing c → ⊥
@@ -61,7 +77,7 @@ not-passing {r} c p e = let z : Passed ≡ refuse c 0 = sym p ∙ ap (λ x. x .v
 -- what a passed reading tells
 pub reading-held : {bytes : List ℕ} {r : Reading} → Reads bytes r → r .verdict ≡ Passed → Held (r .sheet)
 reading-held {bytes} {r} read p =
-    either-way (λ l w e. subst Held (sym (ap (λ x. x .sheet) e)) (held l w)) (λ c e. absurd (not-passing c p e)) read
+    either-way (λ l w e. subst Held (sym (ap (λ x. x .sheet) e)) (lists-held l (writable-counted l w))) (λ c e. absurd (not-passing c p e)) read
 
 -- the parts of its arrays that are lent to a call
 module _ (s : Sheet) (h : Held s) where

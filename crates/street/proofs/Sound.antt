@@ -7,9 +7,9 @@ use Rattle.road.proofs.Paved.{getD-padded, paved}
 use Rattle.street.specs.Lists.{Lists, signals}
 use Rattle.street.specs.Checks.{planChecks}
 use Rattle.street.specs.Streets.{timed}
-use Rattle.street.specs.Steps.{streetOf, surveyed, surveyedAs, timedStreet, Sound}
+use Rattle.street.specs.Steps.{streetOf, built, builtAs, timedStreet, Sound}
 use Rattle.street.specs.declared.Street.{Street}
-use Rattle.street.specs.declared.Surveyed.{Surveyed}
+use Rattle.street.specs.declared.Built.{Built}
 use Rattle.street.specs.declared.Verdict.{Verdict}
 use Rattle.street.specs.declared.Verdict.the-variants.{Passed, Refused}
 use Rattle.street.proofs.Passed.{in-limits}
@@ -42,15 +42,15 @@ module _ (l : Lists) (room : ℕ) (passed : planChecks l room ≡ Passed) where
       }
 
 -- what the constructor's answer says of the checks and of the street
-pub verdict-checks : (l : Lists) (room : ℕ) (r : Surveyed) (v : Verdict) → r ≡ surveyed l room → r .verdict ≡ v → planChecks l room ≡ v
+pub verdict-checks : (l : Lists) (room : ℕ) (r : Built) (v : Verdict) → r ≡ built l room → r .verdict ≡ v → planChecks l room ≡ v
 verdict-checks l room r v e q = sym (verdict-of (planChecks l room)) ∙ sym (ap (λ x. x .verdict) e) ∙ q
   where
-    verdict-of : (w : Verdict) → surveyedAs w (streetOf l) .verdict ≡ w
+    verdict-of : (w : Verdict) → builtAs w (streetOf l) .verdict ≡ w
     verdict-of Passed = refl
     verdict-of (Refused f) = refl
 
-pub passed-street : (l : Lists) (room : ℕ) (r : Surveyed) → r ≡ surveyed l room → planChecks l room ≡ Passed → r .street ≡ streetOf l
-passed-street l room r e p = ap (λ x. x .street) e ∙ ap (λ v. surveyedAs v (streetOf l) .street) p
+pub passed-street : (l : Lists) (room : ℕ) (r : Built) → r ≡ built l room → planChecks l room ≡ Passed → r .street ≡ streetOf l
+passed-street l room r e p = ap (λ x. x .street) e ∙ ap (λ v. builtAs v (streetOf l) .street) p
 
 pub passed-sound : (l : Lists) (room : ℕ) (s : Street) → s ≡ streetOf l → planChecks l room ≡ Passed → Sound (timedStreet s)
 passed-sound l room s e p = subst (λ x. Sound (timedStreet x)) (sym e) (sound l room p)

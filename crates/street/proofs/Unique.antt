@@ -4,10 +4,10 @@ use Prim.Native.Nat.{ℕ}
 use mathlib.Core.Path.{_≡_, sym, _∙_}
 use mathlib.Core.List.{List}
 use Rattle.street.specs.Lists.{Lists}
-use Rattle.street.specs.Steps.{surveyed}
-use Rattle.street.specs.declared.Surveyed.{Surveyed}
+use Rattle.street.specs.Steps.{built}
+use Rattle.street.specs.declared.Built.{Built}
 
-pub new-unique : (l : Lists) (room : ℕ) (r r′ : Surveyed) → r ≡ surveyed l room → r′ ≡ surveyed l room → r ≡ r′
+pub new-unique : (l : Lists) (room : ℕ) (r r′ : Built) → r ≡ built l room → r′ ≡ built l room → r ≡ r′
 new-unique l room r r′ e e′ = e ∙ sym e′
 
 -- one reply, and one final list

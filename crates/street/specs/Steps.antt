@@ -9,7 +9,7 @@ use Rattle.street.specs.Limits.{minCycle, maxCycle, minRed}
 use Rattle.street.specs.Lists.{Lists, signals}
 use Rattle.street.specs.Checks.{planChecks}
 use Rattle.street.specs.declared.Street.{Street}
-use Rattle.street.specs.declared.Surveyed.{Surveyed}
+use Rattle.street.specs.declared.Built.{Built}
 use Rattle.street.specs.declared.Verdict.{Verdict}
 use Rattle.street.specs.declared.Verdict.the-variants.{Passed, Refused}
 
@@ -36,13 +36,13 @@ noStreet =
     }
 
 -- a verdict, with the street where it passed
-abbrev pub surveyedAs : Verdict → Street → Surveyed
-surveyedAs Passed s = record { verdict = Passed; street = s }
-surveyedAs (Refused f) s = record { verdict = Refused f; street = noStreet }
+abbrev pub builtAs : Verdict → Street → Built
+builtAs Passed s = record { verdict = Passed; street = s }
+builtAs (Refused f) s = record { verdict = Refused f; street = noStreet }
 
 -- what the constructor answers to a plan's lists and the lent list's room
-abbrev pub surveyed : Lists → ℕ → Surveyed
-surveyed l room = surveyedAs (planChecks l room) (streetOf l)
+abbrev pub built : Lists → ℕ → Built
+built l room = builtAs (planChecks l room) (streetOf l)
 
 -- a street as the method takes it, of a cycle, a number of signals and their reds, whatever the times are
 abbrev pub timedWith : ℕ → ℕ → List ℕ → (ℕ → ℕ) → (ℕ → ℕ) → Timed

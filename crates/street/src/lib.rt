@@ -12,7 +12,7 @@ ghost use Rattle.street.specs.Limits.{minCycle, maxCycle, minRed, maxPla
 ghost use Rattle.street.specs.Lists.{typed};
 ghost use Rattle.street.specs.Codes.{codeNumber};
 ghost use Rattle.street.specs.Checks.{refuse};
-ghost use Rattle.street.specs.Steps.{surveyed};
+ghost use Rattle.street.specs.Steps.{built};
 
 // The refusals of document 01, in the order of its table, and then those of 02; `code_number` answers the number of each.
 pub enum Code {
@@ -27,6 +27,7 @@ pub enum Code {
     Width,
     Offset,
     Volume,
+    Survey,
 }
 
 // A numbered refusal: what was wrong, and at which signal or link, counted from 1; 0 where the code has no place.
@@ -57,6 +58,7 @@ pub fn code_number(code: Code) -> u32
         Code::Width => 9,
         Code::Offset => 10,
         Code::Volume => 11,
+        Code::Survey => 12,
     }
 }
 
@@ -87,7 +89,7 @@ pub struct Street {
 }
 
 // What the constructor answers: the verdict, and the street beside it, all 0 where the verdict is a refusal.
-pub struct Surveyed {
+pub struct Built {
     pub verdict: Verdict,
     pub street: Street,
 }
@@ -140,8 +142,8 @@ impl Street {
         outbound: &[u32],
         inbound: &[u32],
         lent: usize,
-    ) -> Surveyed
-        ensures { λ r. ⌜ r ≡ surveyed (typed cycle (now (reds .entry)) (now (distances .entry)) (now (outbound .entry)) (now (inbound .entry))) lent ⌝ }
+    ) -> Built
+        ensures { λ r. ⌜ r ≡ built (typed cycle (now (reds .entry)) (now (distances .entry)) (now (outbound .entry)) (now (inbound .entry))) lent ⌝ }
     {
         let verdict = checks::judged(cycle, reds, distances, outbound, inbound, lent);
         let mut out = [0u32; Street::MAX_SIGNALS];
@@ -156,7 +158,7 @@ impl Street {
             signals = distances.len();
             ticks = cycle;
         }
-        Surveyed {
+        Built {
             verdict,
             street: Street {
                 road: Road {

@@ -5,7 +5,7 @@ use borrow.Author.Needs.{needs}
 use Rattle.street.specs.Lists.{Lists, typed, signals}
 use Rattle.street.specs.declared.Verdict.the-variants.{Passed}
 use Rattle.street.proofs.Sound.{verdict-checks, passed-street, passed-sound}
-use Rattle.bands.proofs.MeasureLaws.{measure-short, measure-refused, measure-surveyed}
+use Rattle.bands.proofs.MeasureLaws.{measure-short, measure-refused, measure-built}
 use Rattle.bands.proofs.measure.Statement.{statement}
 use Rattle.bands.proofs.measure.Tie as tie
 
@@ -51,7 +51,7 @@ returns-3 c =
     let x = c .before .before .before .before .new .result in
     let passed = verdict-checks l (signals l) x Passed (c .before .before .before .before .new .ensures) (c .before .before .enum-told .given .1) in
     let is = passed-street l (signals l) x (c .before .before .before .before .new .ensures) passed in
-    measure-surveyed l offsets (x .street) (c .on-street .result) (c .before .before .before .before .before .if1 .left) passed is (c .on-street .ensures)
+    measure-built l offsets (x .street) (c .on-street .result) (c .before .before .before .before .before .if1 .left) passed is (c .on-street .ensures)
 
 pub measure-spec : {M : Type 1} → statement M
 measure-spec =

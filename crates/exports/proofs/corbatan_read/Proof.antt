@@ -17,10 +17,11 @@ returns c =
     let f = c .before .fill in
     let l = f .last .1 in
     let n = c .numbered in
+    let reading = assembled (f .result) (l .0) (l .1 .0) (l .1 .1 .0) (l .1 .1 .1 .0) in
     record {
-      reading = assembled (f .result) (l .0) (l .1 .0) (l .1 .1 .0) (l .1 .1 .1 .0);
+      reading = reading;
       reads = f .ensures;
-      reply = reading-flat (f .result) (l .0) (l .1 .0) (l .1 .1 .0) (l .1 .1 .1 .0) (n .result .code) (n .result .place) (n .ensures .0) (n .ensures .1);
+      reply = reading-flat reading (n .result .code) (n .result .place) (n .ensures .0) (n .ensures .1);
     }
 
 pub corbatan-read-spec : {M : Type 1} → statement M

@@ -10,7 +10,7 @@ use Rattle.road.specs.Limits.{maxSignals}
 use Rattle.street.specs.Lists.{Lists, typed}
 use Rattle.street.specs.Checks.{planChecks}
 use Rattle.street.specs.Steps.{maxHalves, streetOf, timedStreet, Sound}
-use Rattle.street.specs.declared.Surveyed.{Surveyed}
+use Rattle.street.specs.declared.Built.{Built}
 use Rattle.street.specs.declared.Verdict.the-variants.{Passed}
 use Rattle.street.proofs.Sound.{verdict-checks, passed-street, passed-sound}
 use Rattle.search.proofs.Leading.{turning}
@@ -34,7 +34,7 @@ lent c = c .args .offsets .now
 abbrev entry : tie.After-s → tie.Start
 entry c = c .before .before .before .before .before .before .before .before .before
 
-abbrev survey : tie.After-s → Surveyed
+abbrev survey : tie.After-s → Built
 survey c = c .before .before .before .new .result
 
 passed : (c : tie.After-s) → planChecks (lists (entry c)) (length (lent (entry c))) ≡ Passed

@@ -8,17 +8,17 @@ use borrow.Author.Needs.{needs}
 use Rattle.road.specs.Steps.{roadOf, laid}
 use Rattle.street.specs.Lists.{Lists, typed}
 use Rattle.street.specs.Checks.{planChecks}
-use Rattle.street.specs.Steps.{streetOf, noStreet, surveyed}
+use Rattle.street.specs.Steps.{streetOf, noStreet, built}
 use Rattle.street.specs.declared.Refusal.{Refusal}
 use Rattle.street.specs.declared.Street.{Street}
-use Rattle.street.specs.declared.Surveyed.{Surveyed}
+use Rattle.street.specs.declared.Built.{Built}
 use Rattle.street.specs.declared.Verdict.{Verdict}
 use Rattle.street.specs.declared.Verdict.the-variants.{Passed, Refused}
 use Rattle.street.proofs.Passed.{InLimits, in-limits}
 use Rattle.street.proofs.Street.new.Statement.{statement}
 use Rattle.street.proofs.Street.new.Tie as tie
 
-abbrev answer : Verdict → Street → Surveyed
+abbrev answer : Verdict → Street → Built
 answer v s = record { verdict = v; street = s }
 
 -- what the verdict on lists comes to
@@ -26,12 +26,12 @@ module _ (l : Lists) (room : ℕ) (v : Verdict) (is : v ≡ planChecks l room) w
   passed : v ≡ Passed → InLimits l room
   passed told = in-limits l room (sym is ∙ told)
 
-  filled : v ≡ Passed → (out back reds : List ℕ) (m : ℕ) → laid (length (l .distances)) out back m ≡ roadOf (length (l .distances)) (l .distances) (l .outbound) (l .inbound) → reds ≡ streetOf l .reds → answer v (record { road = laid (length (l .distances)) out back m; cycle = l .cycle; reds = reds }) ≡ surveyed l room
+  filled : v ≡ Passed → (out back reds : List ℕ) (m : ℕ) → laid (length (l .distances)) out back m ≡ roadOf (length (l .distances)) (l .distances) (l .outbound) (l .inbound) → reds ≡ streetOf l .reds → answer v (record { road = laid (length (l .distances)) out back m; cycle = l .cycle; reds = reds }) ≡ built l room
   filled told out back reds m road copied =
       let all = ap (λ (n : ℕ). roadOf n (l .distances) (l .outbound) (l .inbound)) (passed told .counts .distances) in
       simp (told, sym is ∙ told, road ∙ all, copied)
 
-  empty : (f : Refusal) → v ≡ Refused f → answer v noStreet ≡ surveyed l room
+  empty : (f : Refusal) → v ≡ Refused f → answer v noStreet ≡ built l room
   empty f told = simp (told, sym is ∙ told)
 
 -- the entry, the lists that are judged there, and what they are known to be where the verdict passed

@@ -1,0 +1,5 @@
+pub mod RowLaws
+pub mod TypingLaws
+pub mod PlanLaws
+pub mod Unique
+pub mod Examples

@@ -1,0 +1,4 @@
+pub mod Rows
+pub mod Typing
+pub mod Plans
+pub mod Steps
