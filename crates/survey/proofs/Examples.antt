@@ -1,6 +1,6 @@
 -- Surveys worked out: the numbers that rows come to, and which row is refused. Assumes nothing.
 use Prim.Native.Nat.{ℕ}
-use mathlib.Core.Path.{_≡_, refl}
+use mathlib.Core.Path.{_≡_, refl, sym, _∙_}
 use mathlib.Core.List.{List, [], _∷_, _++_, map}
 use lib.ListN.{length, replicate}
 use lib.Ieee.{Float, nan, inf, binary64, ofBits}
@@ -8,7 +8,9 @@ use mathlib.Core.Bool.{false}
 use Rattle.circle.specs.Over.{firstBelow, listBelow}
 use Rattle.street.specs.Lists.{typed}
 use Rattle.street.specs.Codes.{codeOf, placeOf}
-use Rattle.sheet.specs.Reading.{passing}
+use Rattle.sheet.specs.Reading.{passing, Reads}
+use Rattle.sheet.specs.declared.Reading.{Reading}
+use Rattle.sheet.proofs.Examples.{streetA, sheetA, text-a, writable-a}
 use Rattle.eighths.specs.Readings.{eighthsOf}
 use Rattle.survey.specs.declared.Position.the-variants.{Chainage, Gap}
 use Rattle.survey.specs.declared.Row.{Row}
@@ -69,6 +71,11 @@ past x out back red = record { position = Gap x; outbound = out; inbound = back;
 pub street-a : surveyReading 100 2 (inRows (at none none minus 40 ∷ past thirty ten fifteen 50 ∷ [])) ≡ passing (typed 100 (40 ∷ 50 ∷ []) (0 ∷ 30000 ∷ []) (10000 ∷ []) (15000 ∷ []))
 unfolding surveyChecks rowCountCheck rowCheck running firstBelow listBelow eighthsOf ofBits
 street-a = refl
+
+-- so its sheet, read, is its survey, read
+pub sheet-a : (r : Reading) → Reads sheetA r → r ≡ surveyReading 100 2 (inRows (at none none minus 40 ∷ past thirty ten fifteen 50 ∷ []))
+sheet-a r reads =
+    reads .of-text streetA writable-a (sym text-a) ∙ sym street-a
 
 -- and the same street from an origin that lies 50 metres before it
 pub other-origin : surveyReading 100 2 (inRows (past fifty minus minus 40 ∷ at eighty ten fifteen 50 ∷ [])) ≡ passing (typed 100 (40 ∷ 50 ∷ []) (50000 ∷ 80000 ∷ []) (10000 ∷ []) (15000 ∷ []))

@@ -19,7 +19,8 @@ use Rattle.street.specs.declared.Refusal.{Refusal}
 use Rattle.street.specs.declared.Verdict.{Verdict}
 use Rattle.street.specs.declared.Verdict.the-variants.{Passed, Refused}
 use Rattle.street.proofs.CheckLaws.{Counted, passes, within-range, last-check}
-use Rattle.sheet.specs.Reading.{inArray, sheetOf, listsOf, passing}
+use Rattle.sheet.specs.Form.{Writable, text}
+use Rattle.sheet.specs.Reading.{inArray, sheetOf, listsOf, passing, Reads}
 use Rattle.sheet.specs.Steps.Held.{Held}
 use Rattle.sheet.specs.declared.Reading.{Reading}
 use Rattle.sheet.specs.declared.Sheet.{Sheet}
@@ -158,6 +159,12 @@ module _ (cycle n : ℕ) (row : ℕ → Row) (r : Reading) (is : r ≡ surveyRea
         held = subst Held (sym sheet) (lists-held (typedRows cycle n row) counted);
         lists = ap listsOf sheet ∙ lists-whole (typedRows cycle n row) counted;
       }
+
+-- typed on a sheet and read, the street gives the reading that the rows give
+pub typed-on-a-sheet : (cycle n : ℕ) (row : ℕ → Row) (bytes : List ℕ) (r : Reading) → surveyChecks n row ≡ Passed → Writable (typedRows cycle n row) → bytes ≡ text (typedRows cycle n row) → Reads bytes r → r ≡ surveyReading cycle n row
+typed-on-a-sheet cycle n row bytes r passed writable is-text reads =
+    reads .of-text (typedRows cycle n row) writable is-text
+    ∙ reads-passed (surveyChecks n row) (typedRows cycle n row) passed
 
 -- ---- five lists
 

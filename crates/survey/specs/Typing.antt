@@ -68,7 +68,7 @@ abbrev pub inLists : List ℕ → List Float → List Float → List Float → L
 inLists kinds positions outbound inbound reds j =
     rowOf (getD kinds j 0) (getD positions j nan) (getD outbound j nan) (getD inbound j nan) (getD reds j 0)
 
--- 2 COUNT: each of the five lists has as many entries as there are reds
+-- 2 COUNT: each of the other four lists has as many entries as there are reds
 unfoldable pub lengthsCheck : ℕ → ℕ → ℕ → ℕ → ℕ → Verdict
 lengthsCheck n kinds positions outbound inbound =
     unless (eqb kinds n and eqb positions n and eqb outbound n and eqb inbound n) Count
