@@ -41,8 +41,8 @@ pub struct Row {
 }
 
 impl Position {
-    // A position by its kind as C has it, 0 for a chainage and 1 for a gap. A position of another kind is outside the rules, whatever its
-    // number, and so is a NaN.
+    // A position by its kind as C has it, 0 for a chainage and 1 for a gap. One of another kind is outside the rules whatever its number
+    // is, and becomes a chainage that is so too: one that is not a number.
     fn of_kind(kind: u32, x: f64) -> Position
         ensures { λ r. ⌜ r ≡ positionOf kind x ⌝ }
     {
