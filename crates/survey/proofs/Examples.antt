@@ -1,6 +1,6 @@
 -- Surveys worked out: the numbers that rows come to, and which row is refused. Assumes nothing.
 use Prim.Native.Nat.{ℕ}
-use mathlib.Core.Path.{_≡_, refl, sym, _∙_}
+use mathlib.Core.Path.{_≡_, refl, sym}
 use mathlib.Core.List.{List, [], _∷_, _++_, map}
 use lib.ListN.{length, replicate}
 use lib.Ieee.{Float, nan, inf, binary64, ofBits}
@@ -10,11 +10,12 @@ use Rattle.street.specs.Lists.{typed}
 use Rattle.street.specs.Codes.{codeOf, placeOf}
 use Rattle.sheet.specs.Reading.{passing, Reads}
 use Rattle.sheet.specs.declared.Reading.{Reading}
-use Rattle.sheet.proofs.Examples.{streetA, sheetA, text-a, writable-a}
+use Rattle.sheet.proofs.Examples.{sheetA, text-a, writable-a}
 use Rattle.eighths.specs.Readings.{eighthsOf}
 use Rattle.survey.specs.declared.Position.the-variants.{Chainage, Gap}
 use Rattle.survey.specs.declared.Row.{Row}
 use Rattle.survey.specs.Rows.{running, rowCountCheck, rowCheck}
+use Rattle.survey.proofs.TypingLaws.{typed-on-a-sheet}
 use Rattle.survey.specs.Typing.{surveyChecks, typedRows, surveyReading, inRows, lengthsCheck, listsReading}
 
 -- 0 and negative zero, an eighth, 0.1, 5.125, 10, 15, 30, 30.1, 50, 80, 20,000, an eighth less and an eighth more
@@ -74,8 +75,9 @@ street-a = refl
 
 -- so its sheet, read, is its survey, read
 pub sheet-a : (r : Reading) → Reads sheetA r → r ≡ surveyReading 100 2 (inRows (at none none minus 40 ∷ past thirty ten fifteen 50 ∷ []))
+unfolding surveyChecks rowCountCheck rowCheck running firstBelow listBelow eighthsOf ofBits
 sheet-a r reads =
-    reads .of-text streetA writable-a (sym text-a) ∙ sym street-a
+    typed-on-a-sheet 100 2 (inRows (at none none minus 40 ∷ past thirty ten fifteen 50 ∷ [])) sheetA r refl writable-a (sym text-a) reads
 
 -- and the same street from an origin that lies 50 metres before it
 pub other-origin : surveyReading 100 2 (inRows (past fifty minus minus 40 ∷ at eighty ten fifteen 50 ∷ [])) ≡ passing (typed 100 (40 ∷ 50 ∷ []) (50000 ∷ 80000 ∷ []) (10000 ∷ []) (15000 ∷ []))

@@ -19,14 +19,11 @@ use Rattle.plans.specs.declared.Answer.the-variants as answer
 use Rattle.survey.specs.declared.Row.{Row}
 use Rattle.survey.specs.Typing.{typedRows, surveyChecks, surveyReading}
 use Rattle.survey.specs.Plans.{Surveyed}
+use Rattle.survey.proofs.RowLaws.{not-both}
 use Rattle.survey.proofs.TypingLaws.{checks-are, reading-passed}
 
--- a verdict is not both
-pub not-both : {v : Verdict} (f : Refusal) → v ≡ verdict.Refused f → v ≡ verdict.Passed → ⊥
-not-both f e p = let z : _≡_ {A = ℕ} 0 1 = cc in omega arith
-
--- and refuses by one refusal
-pub one-refusal : {v : Verdict} (f g : Refusal) → v ≡ verdict.Refused f → v ≡ verdict.Refused g → f ≡ g
+-- a verdict refuses by one refusal
+one-refusal : {v : Verdict} (f g : Refusal) → v ≡ verdict.Refused f → v ≡ verdict.Refused g → f ≡ g
 one-refusal f g e h = cc
 
 module _ (request : Request) (cycle n : ℕ) (row : ℕ → Row) (r : Reading) (is : r ≡ surveyReading cycle n row) where

@@ -15,9 +15,10 @@ use lib.Ieee.{Float, nan}
 use Rattle.circle.specs.Over.{_or_}
 use Rattle.circle.proofs.Numbers.{first-at, first-nowhere}
 use Rattle.street.specs.Checks.{refuse, faultAt}
-use Rattle.street.specs.declared.Code.{Code}
 use Rattle.street.specs.declared.Code.the-variants.{Survey}
-use Rattle.street.specs.declared.Verdict.the-variants.{Passed}
+use Rattle.street.specs.declared.Refusal.{Refusal}
+use Rattle.street.specs.declared.Verdict.{Verdict}
+use Rattle.street.specs.declared.Verdict.the-variants.{Passed, Refused}
 use Rattle.eighths.specs.Readings.{eighthsOf}
 use Rattle.eighths.specs.declared.Eighths.{Eighths}
 use Rattle.eighths.specs.declared.Eighths.the-variants.{Whole, Outside}
@@ -248,5 +249,6 @@ pub fault-nowhere : (row : ℕ → Row) (n : ℕ) → ((k : ℕ) → k < n → b
 unfolding rowCheck
 fault-nowhere row n none = sym (ap (faultAt Survey) (first-nowhere n (badRow row) none))
 
-pub refused-passed : (code : Code) (place : ℕ) → refuse code place ≡ Passed → ⊥
-refused-passed code place e = let z : _≡_ {A = ℕ} 0 1 = cc in omega arith
+-- and no verdict is both
+pub not-both : {v : Verdict} (f : Refusal) → v ≡ Refused f → v ≡ Passed → ⊥
+not-both f e p = let z : _≡_ {A = ℕ} 0 1 = cc in omega arith

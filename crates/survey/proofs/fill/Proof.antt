@@ -15,7 +15,7 @@ use Rattle.street.specs.declared.Code.the-variants.{Survey}
 use Rattle.survey.specs.Rows.{running, badRow}
 use Rattle.survey.specs.Typing.{thousandths, inRows}
 use Rattle.survey.specs.Steps.{maxEighths, outboundSpeed, inboundSpeed}
-use Rattle.survey.proofs.RowLaws.{fault-at, fault-nowhere, refused-passed, Good-row, reading-small, first-good, first-bad, following-good, following-bad}
+use Rattle.survey.proofs.RowLaws.{fault-at, fault-nowhere, not-both, Good-row, reading-small, first-good, first-bad, following-good, following-bad}
 use Rattle.survey.proofs.fill.Statement.{statement}
 use Rattle.survey.proofs.fill.Tie as tie
 
@@ -72,7 +72,7 @@ returns c =
     let is = c .refused .ensures in
     record {
       verdict = is ∙ fault-at row (c0 .args .count) 0 (omega arith) (below-none _) bad;
-      columns = λ p. absurd (refused-passed Survey 1 (sym is ∙ p));
+      columns = λ p. absurd (not-both (record { code = Survey; place = 1 }) is p);
     }
 
 element-write-reds : tie.Need-element-write-reds Inv-loop μ-loop
@@ -139,7 +139,7 @@ returns-2 c =
     let is = c .refused2 .ensures in
     record {
       verdict = is ∙ fault-at row (c0 .args .count) (at .loop .link + 1) (omega arith) (at .loop .inv .3) bad;
-      columns = λ p. absurd (refused-passed Survey (at .loop .link + 1 + 1) (sym is ∙ p));
+      columns = λ p. absurd (not-both (record { code = Survey; place = at .loop .link + 1 + 1 }) is p);
     }
 
 mul-reds : tie.Need-mul-reds Inv-loop μ-loop
