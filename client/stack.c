@@ -139,6 +139,13 @@ static void set_street(size_t n, int greatest)
     }
 }
 
+/* Lets every k-th signal of the street that is set rest in green, with a red of 0; none where k is 0. */
+static void rest_every(size_t k)
+{
+    for (size_t i = 0; k > 0 && i < signals; i += k)
+        reds[i] = 0;
+}
+
 /* Writes the sheet of what is set. */
 static void set_sheet(void)
 {
@@ -235,6 +242,7 @@ int main(void)
         calls[k].make();
     for (size_t k = 0; k < STREETS; k++) {
         set_street(k % 4 == 3 ? k : N, k == 0);
+        rest_every(k % 3);
         measure_street();
     }
     set_street(N, 1);

@@ -53,8 +53,8 @@
 
 /* The version of this interface: the major number changes when a program that uses it has to change. */
 #define CORBATAN_VERSION_MAJOR 1
-#define CORBATAN_VERSION_MINOR 5
-#define CORBATAN_VERSION "1.5"
+#define CORBATAN_VERSION_MINOR 6
+#define CORBATAN_VERSION "1.6"
 
 /* How many signals a street can have, and so how long the lists in a CorbatanSheet are. */
 #define CORBATAN_MAX_SIGNALS 32
@@ -72,7 +72,7 @@
 /*
  * How many bytes of stack are enough for any of the calls, with its arguments and its reply. client/stack.c measures
  * what they take, on streets of up to 32 signals, on requests and on refusals: corbatan_print 12,712,
- * corbatan_volumes 10,184, any other plan at most 10,136, corbatan_survey 4,136, corbatan_measure 2,008, corbatan_read
+ * corbatan_volumes 10,184, any other plan at most 10,136, corbatan_survey 4,136, corbatan_measure 2,168, corbatan_read
  * 1,328, corbatan_write 1,072; another kit may give a few bytes more or less. The rest is room, as for the dynamic
  * linker, which takes some 2,000 bytes of the caller's stack where it binds memcpy or memset at their first use.
  */
@@ -89,7 +89,7 @@
 #define CORBATAN_COUNT 2    /* n is not 1 to 32, or a list's length does not fit n; place 0. */
 #define CORBATAN_ROOM 3     /* The lent list is shorter than what is written: n offsets, or a sheet's bytes; place 0. */
 #define CORBATAN_CYCLE 4    /* The cycle is not 10 to 6,000 ticks; place 0. */
-#define CORBATAN_RED 5      /* A red is not 1 tick to one tick less than the cycle; the signal. */
+#define CORBATAN_RED 5      /* A red is not 0 to one tick less than the cycle, up to version 1.5 not 1 tick to that; the signal. */
 #define CORBATAN_DISTANCE 6 /* A distance is above 20,000,000 mm or not above the one before; the signal. */
 #define CORBATAN_SPEED 7    /* A speed is not 1,000 to 40,000 mm/s; the link. */
 #define CORBATAN_PLATOON 8  /* A platoon, given or of a volume, is longer than 100,000 halves; 1 outbound, 2 inbound. */
@@ -205,6 +205,8 @@ CorbatanText corbatan_print(const uint8_t *bytes, size_t bytes_count);
 /*
  * Plans with both bands of one width. Each of the plans takes the cycle in ticks, n reds in ticks, n distances in mm,
  * n - 1 outbound and n - 1 inbound speeds in mm/s, and lends a list of n entries or more for the offsets in halves.
+ * A signal whose red is 0 rests in green: it limits no band, and no request moves its offset. Where every signal rests,
+ * the reference is signal 1, and B and both widths are H.
  */
 CorbatanPlan corbatan_equal(
     uint32_t cycle,

@@ -108,7 +108,7 @@ function fault(    row, sentence) {
     if (code == 4) return "the cycle, " word[2] ", is not from 10 to 6,000 ticks, tenths of a second"
     row = code == 7 ? place + 1 : place
     if (code == 5)
-        sentence = "its red, the last number, is not from 1 to " cycle - 1 " ticks; the cycle is " count(cycle, "tick") ", " decimal(cycle, 10) " s"
+        sentence = "its red, the last number, is not from 0 to " cycle - 1 " ticks; the cycle is " count(cycle, "tick") ", " decimal(cycle, 10) " s"
     if (code == 6)
         sentence = "its signal, at " decimal(distance(row), 1000) " m from the origin, is not beyond that of row " row - 1 ", at " \
             decimal(distance(row - 1), 1000) " m"

@@ -159,7 +159,7 @@ function speed_fault(    row) {
 
 function red_fault(    row) {
     row = 3 + place
-    return "line " row " has " quoted(row) ", and the red of signal " place ", its second number, is not from 1 to " \
+    return "line " row " has " quoted(row) ", and the red of signal " place ", its second number, is not from 0 to " \
         cycle - 1 " ticks; the cycle on line 2 is " count(cycle, "tick") ", " decimal(cycle, 10) " s"
 }
 

@@ -84,7 +84,6 @@ fn faulty(case: &Case) -> Vec<Case> {
         edited(case, |c| c.reds.clear()),
         edited(case, |c| c.cycle = 9),
         edited(case, |c| c.reds[last] = c.cycle),
-        edited(case, |c| c.reds[last] = 0),
         edited(case, |c| c.distances[last] = 20_000_001),
     ];
     if last > 0 {
@@ -95,8 +94,8 @@ fn faulty(case: &Case) -> Vec<Case> {
     all
 }
 
-/// The case with the least reds, distances and speeds and with the greatest, and so with the shortest sheet and the
-/// longest.
+/// The case with no reds, with the least ones, and with the greatest, each with like distances and speeds, and so with the
+/// shortest sheet and the longest.
 fn extreme(case: &Case) -> Vec<Case> {
     let numbers = |red: u32, first: u32, speed: u32| {
         edited(case, |c| {
@@ -107,7 +106,22 @@ fn extreme(case: &Case) -> Vec<Case> {
             c.complete();
         })
     };
-    vec![numbers(1, 0, 1_000), numbers(case.cycle - 1, 20_000_001 - case.reds.len() as u32, 40_000)]
+    let far = 20_000_001 - case.reds.len() as u32;
+    vec![numbers(0, 0, 1_000), numbers(1, 0, 1_000), numbers(case.cycle - 1, far, 40_000)]
+}
+
+/// The case with signals that rest in green: the first, the last, every other one, all but the last, and all.
+fn resting(case: &Case) -> Vec<Case> {
+    let last = case.reds.len() - 1;
+    let rests: [fn(usize, usize) -> bool; 5] =
+        [|j, _| j == 0, |j, last| j == last, |j, _| j % 2 == 1, |j, last| j < last, |_, _| true];
+    let rested = |rests: fn(usize, usize) -> bool| {
+        edited(case, |c| {
+            c.reds.iter_mut().enumerate().filter(|&(j, _)| rests(j, last)).for_each(|(_, red)| *red = 0);
+            c.complete();
+        })
+    };
+    rests.iter().map(|&rests| rested(rests)).collect()
 }
 
 /// The case over lists of bytes that are empty, a byte too short for its sheet, just long enough, and a byte longer.
@@ -136,6 +150,9 @@ pub fn agree() -> Result<usize, String> {
             let timed = streets(signals, cycle, reds);
             let mut all = timed.clone();
             all.extend(extreme(&timed[0]));
+            let resting = resting(&timed[0]);
+            all.extend(resting.iter().flat_map(asked));
+            all.extend(resting);
             all.extend(faulty(&timed[0]));
             all.extend(all.iter().flat_map(resized).collect::<Vec<_>>());
             all.extend(asked(&timed[0]));

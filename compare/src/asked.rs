@@ -4,15 +4,18 @@ use crate::cases::{request, Request};
 use crate::equal::Plan;
 use crate::moved::{papers_width, plan, shortest_green, Ask, MAX_PLATOON};
 use crate::offsets::LARGEST;
+use crate::resting::{holds, Resting};
 use crate::sheet::read;
 use crate::street::{Refusal, Street, MAX_SIGNALS};
 use crate::tally::Tally;
 use crate::trial::Case;
 
-const WANTED: [(&str, usize); 48] = [
+const WANTED: [(&str, usize); 50] = [
     ("requests", 5_000),
     ("planned", 2_000),
     ("planned with 20 signals or more", 500),
+    ("planned with a red of 0", 300),
+    ("planned with every red 0", 20),
     ("outbound wider", 400),
     ("inbound wider", 400),
     ("with an offset lowered past 0", 200),
@@ -107,6 +110,8 @@ fn note_plan(tally: &mut Tally, street: &Street, ask: Ask, plan: &Plan) {
     let apart = plan.outbound != plan.inbound;
     tally.note("planned", true);
     tally.note("planned with 20 signals or more", street.signals() >= 20);
+    tally.note("planned with a red of 0", street.reds.contains(&0));
+    tally.note("planned with every red 0", holds(street, Resting::All));
     tally.note("outbound wider", plan.outbound > plan.inbound);
     tally.note("inbound wider", plan.inbound > plan.outbound);
     tally.note("with an offset lowered past 0", plan.offsets.iter().zip(&before).any(|(new, old)| new > old));

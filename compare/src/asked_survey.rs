@@ -3,13 +3,14 @@
 use crate::cases::{request, Request};
 use crate::equal::{equal, Plan};
 use crate::offsets::LARGEST;
+use crate::resting::{holds, Resting};
 use crate::rows::{LIMITS, NEGATIVE};
 use crate::street::{Refusal, Street, CYCLE, MAX_SIGNALS, SPEED};
 use crate::survey::{eighths, rows, street, Row, CHAINAGE, EIGHTH, GAP, MOST};
 use crate::tally::Tally;
 use crate::trial::Case;
 
-const WANTED: [(&str, usize); 80] = [
+const WANTED: [(&str, usize); 82] = [
     ("requests", 8_000),
     ("bad request", 300),
     ("bad request for a row past the most", 6),
@@ -32,6 +33,8 @@ const WANTED: [(&str, usize); 80] = [
     ("planned with a speed of 40 m/s", 300),
     ("planned with speeds that are no whole metres", 500),
     ("planned with unlike speeds of a link", 1_000),
+    ("planned with a red of 0", 300),
+    ("planned with every red 0", 60),
     ("planned with a red of 1", 300),
     ("planned with a red of C - 1", 300),
     ("planned with times that are rounded", 1_000),
@@ -69,7 +72,7 @@ const WANTED: [(&str, usize); 80] = [
     ("refused by code 4 for a cycle of 2^32 - 1", 15),
     ("refused by code 4 with a later fault", 10),
     ("refused by code 5", 200),
-    ("refused by code 5 for a red of 0", 50),
+    ("refused by code 5 beside a red of 0", 20),
     ("refused by code 5 for a red of C", 50),
     ("refused by code 5 for a red of 2^32 - 1", 25),
     ("refused by code 5 with a later fault", 20),
@@ -193,7 +196,7 @@ fn note_bad_row(tally: &mut Tally, cycle: i64, rows: &[Row], place: usize, room:
     tally.note(&refused(" with a later bad row"), rows[place..].iter().any(has_fault));
     tally.note(&refused(" before 3"), room < n);
     tally.note(&refused(" before 4"), cycle < CYCLE.0 || cycle > CYCLE.1);
-    tally.note(&refused(" before 5"), rows.iter().any(|row| row.red == 0 || row.red >= cycle));
+    tally.note(&refused(" before 5"), rows.iter().any(|row| row.red >= cycle));
     if let [Some(position), Some(outbound), Some(inbound)] = row.floats.map(eighths) {
         let before = street(cycle, &rows[..place - 1]).map_or(0, |street| street.distances[place - 2]);
         let distance = if row.kind == GAP { before / EIGHTH + position } else { position };
@@ -241,6 +244,8 @@ fn note_plan(tally: &mut Tally, rows: &[Row], street: &Street, plan: &Plan, room
     tally.note(&planned(" with speeds that are no whole metres"), uneven);
     let unlike = street.outbound.iter().zip(&street.inbound).any(|(out, back)| out != back);
     tally.note(&planned(" with unlike speeds of a link"), unlike);
+    tally.note(&planned(" with a red of 0"), street.reds.contains(&0));
+    tally.note(&planned(" with every red 0"), holds(street, Resting::All));
     tally.note(&planned(" with a red of 1"), street.reds.contains(&1));
     tally.note(&planned(" with a red of C - 1"), street.reds.contains(&(street.cycle - 1)));
     tally.note(&planned(" with times that are rounded"), plan.not_whole > 0);
@@ -274,7 +279,7 @@ fn note_refused(tally: &mut Tally, rows: &[Row], street: &Street, refusal: Refus
         }
         5 => {
             let red = street.reds[place as usize - 1];
-            tally.note(&refused(" for a red of 0"), red == 0);
+            tally.note(&refused(" beside a red of 0"), street.reds.contains(&0));
             tally.note(&refused(" for a red of C"), red == cycle);
             tally.note(&refused(" for a red of 2^32 - 1"), red == LARGEST);
         }

@@ -5,6 +5,7 @@ use crate::cases::{request, Request};
 use crate::equal::Plan;
 use crate::moved::{papers_width, plan, shortest_green, Ask, MAX_PLATOON};
 use crate::offsets::LARGEST;
+use crate::resting::{holds, Resting};
 use crate::sheet::read;
 use crate::street::{outside, Refusal, Street};
 use crate::tally::Tally;
@@ -12,10 +13,12 @@ use crate::trial::Case;
 use crate::volumes::{fitting, platoon, HEADWAY, MAX_VOLUME, PER_HALF};
 
 /// Code 9 has no row, so a run in which volumes got it would fail.
-const WANTED: [(&str, usize); 68] = [
+const WANTED: [(&str, usize); 70] = [
     ("requests", 8_000),
     ("planned", 3_000),
     ("planned with 20 signals or more", 1_000),
+    ("planned with a red of 0", 500),
+    ("planned with every red 0", 40),
     ("outbound wider", 500),
     ("inbound wider", 500),
     ("refused by code 1", 300),
@@ -154,6 +157,8 @@ const SIDES: [&str; 2] = ["outbound", "inbound"];
 fn note_plan(tally: &mut Tally, street: &Street, asked: &Asked, plan: &Plan) {
     tally.note("planned", true);
     tally.note("planned with 20 signals or more", street.signals() >= 20);
+    tally.note("planned with a red of 0", street.reds.contains(&0));
+    tally.note("planned with every red 0", holds(street, Resting::All));
     tally.note("outbound wider", plan.outbound > plan.inbound);
     tally.note("inbound wider", plan.inbound > plan.outbound);
     note_numbers(tally, asked);

@@ -1,6 +1,7 @@
 //! A count of what a run compared, and what a run must have compared to be worth anything.
 
 use crate::equal::{Pairs, Plan};
+use crate::resting::{holds, Resting};
 use crate::sheet::read;
 use crate::street::Refusal;
 
@@ -17,6 +18,8 @@ pub struct Coverage {
     pub reference_after_1: usize,
     pub tied: usize,
     pub touching: usize,
+    pub resting: usize,
+    pub all_resting: usize,
 }
 
 impl Coverage {
@@ -41,6 +44,8 @@ impl Coverage {
         self.reference_after_1 += usize::from(plan.reference > 1);
         self.tied += usize::from(ties > 1);
         self.touching += usize::from(pairs.touches());
+        self.resting += usize::from(street.reds.contains(&0));
+        self.all_resting += usize::from(holds(&street, Resting::All));
     }
 
     pub fn print(&self) {
@@ -54,6 +59,7 @@ impl Coverage {
             self.rounded, self.reference_after_1
         );
         println!("planned: {} with tied candidates, {} with touching trajectories", self.tied, self.touching);
+        println!("planned: {} with a red of 0, {} with no other red", self.resting, self.all_resting);
         let codes: Vec<String> =
             (1..8).map(|code| format!("{} by code {code}", self.refused[code])).collect();
         println!("refused: {}", codes.join(", "));
@@ -82,6 +88,11 @@ impl Coverage {
         want(self.reference_after_1 > 0, "signal 1 was always the reference");
         want(self.tied > 0, "no candidates tied");
         want(self.touching > 0, "no trajectories touched");
+        want(
+            20 * self.resting >= self.sheets,
+            "fewer than a twentieth of the sheets were planned with a red of 0",
+        );
+        want(self.all_resting > 0, "no sheet was planned with every red 0");
         gaps
     }
 }

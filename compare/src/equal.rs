@@ -38,37 +38,56 @@ impl<'a> Pairs<'a> {
         self.u(i, j, phase) - 2 * self.street.reds[j]
     }
 
-    /// b(i), for every i.
-    pub fn leasts(&self) -> Vec<i64> {
+    /// b(i) for each of some signals, with the same signals as limits.
+    fn leasts_among(&self, signals: &[usize]) -> Vec<i64> {
         let better = |i, j| self.phases().map(|e| self.width(i, j, e)).into_iter().max().unwrap();
-        let all = 0..self.street.signals();
-        all.clone().map(|i| all.clone().map(|j| better(i, j)).min().unwrap()).collect()
+        signals.iter().map(|&i| signals.iter().map(|&j| better(i, j)).min().unwrap()).collect()
     }
 
-    /// Whether some trajectory between two signals touches, so that its u is the whole cycle.
+    /// b(i), for every i that has a red.
+    pub fn leasts(&self) -> Vec<i64> {
+        self.leasts_among(&self.street.stopping())
+    }
+
+    /// Whether some trajectory between two reds touches, so that its u is the whole cycle.
     pub fn touches(&self) -> bool {
-        let n = self.street.signals();
+        let stopping = self.street.stopping();
         let touch = |i, j| self.phases().into_iter().any(|e| self.u(i, j, e) == self.street.halves());
-        (0..n).any(|i| (0..n).any(|j| i != j && touch(i, j)))
+        stopping.iter().any(|&i| stopping.iter().any(|&j| i != j && touch(i, j)))
     }
 
-    /// The reference, counted from 0, and B.
+    /// The first of some signals whose b among them is the greatest, and that b; nothing where there is no signal.
+    fn best_among(&self, signals: &[usize]) -> Option<(usize, i64)> {
+        let leasts = self.leasts_among(signals);
+        let best = *leasts.iter().max()?;
+        let at = leasts.iter().position(|&least| least == best)?;
+        Some((signals[at], best))
+    }
+
+    /// The reference, counted from 0, and B. A signal that rests in green is no candidate and no limit; where all do,
+    /// the first signal is the reference, and B is the whole cycle.
     pub fn reference(&self) -> (usize, i64) {
-        let leasts = self.leasts();
-        let best = *leasts.iter().max().unwrap();
-        (leasts.iter().position(|&least| least == best).unwrap(), best)
+        self.best_among(&self.street.stopping()).unwrap_or((0, self.street.halves()))
     }
 
+    /// The same by the formula as the paper prints it, with every signal as candidate and limit: a red of no length cuts
+    /// the band there.
+    pub fn papers_reference(&self) -> (usize, i64) {
+        let all: Vec<usize> = (0..self.street.signals()).collect();
+        self.best_among(&all).expect("a street has a signal")
+    }
+
+    /// The better phase, 0 on a tie and at a signal that rests in green.
     fn phase(&self, i: usize, j: usize) -> i64 {
         let [none, half] = self.phases();
-        if self.width(i, j, half) > self.width(i, j, none) {
+        if !self.street.rests(j) && self.width(i, j, half) > self.width(i, j, none) {
             half
         } else {
             none
         }
     }
 
-    /// u(j): the u of the better phase.
+    /// u(j): the u of signal j's phase.
     pub fn chosen(&self, c: usize, j: usize) -> i64 {
         self.u(c, j, self.phase(c, j))
     }

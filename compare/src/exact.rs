@@ -77,20 +77,26 @@ impl Fine {
         (0..lags.len()).all(|j| since_red_start(j).rem_euclid(self.cycle) >= 2 * self.reds[j])
     }
 
-    /// How many departures from one on meet no red, up to the first that does.
+    /// The signals that have a red.
+    fn stopping(&self) -> impl Iterator<Item = usize> + '_ {
+        (0..self.reds.len()).filter(move |&j| self.reds[j] > 0)
+    }
+
+    /// How many departures from one on meet no red, up to the first that does; a whole cycle of them where none does.
     pub fn stretch(&self, offsets: &[i128], lags: &[i128], departure: i128) -> i128 {
         if !self.clear(offsets, lags, departure) {
             return 0;
         }
         let to_red_start =
             |j: usize| (offsets[j] - self.reds[j] - departure - lags[j]).rem_euclid(self.cycle);
-        (0..lags.len()).map(to_red_start).min().expect("a street has a signal")
+        self.stopping().map(to_red_start).min().unwrap_or(self.cycle)
     }
 
-    /// The width of one direction's band: a longest stretch starts where some red ends.
+    /// The width of one direction's band: a longest stretch starts where some red ends, and with no red it is the whole
+    /// cycle.
     pub fn width(&self, offsets: &[i128], lags: &[i128]) -> i128 {
         let red_end = |j: usize| offsets[j] + self.reds[j] - lags[j];
-        (0..lags.len()).map(|j| self.stretch(offsets, lags, red_end(j))).max().expect("a street has a signal")
+        self.stopping().map(|j| self.stretch(offsets, lags, red_end(j))).max().unwrap_or(self.cycle)
     }
 
     /// Both directions' widths, outbound first.

@@ -2,6 +2,8 @@
 
 use crate::cases::{input, output, reply};
 use crate::equal::Plan;
+use crate::moved::Ask;
+use crate::named::as_promised;
 use crate::offsets::request;
 use crate::printed::plan_in;
 use crate::run::Program;
@@ -81,6 +83,15 @@ pub fn plans_asked<A: Display>(asked: &[(Street, Vec<A>)]) -> Vec<Vec<Plan>> {
     asked.iter().map(|(_, asks)| replies.by_ref().take(asks.len()).collect()).collect()
 }
 
+/// The same plans one after the other, and beside each its street.
+pub fn planned(asked: &[(Street, Vec<Ask>)]) -> (Vec<Street>, Vec<Plan>) {
+    let beside = |((street, _), plans): (&(Street, Vec<Ask>), Vec<Plan>)| {
+        let street = street.clone();
+        plans.into_iter().map(move |plan| (street.clone(), plan))
+    };
+    asked.iter().zip(plans_asked(asked)).flat_map(beside).unzip()
+}
+
 /// The outbound and inbound widths that `cases` itself measures under each plan's offsets.
 pub fn widths(streets: &[Street], plans: &[Plan]) -> Vec<(i64, i64)> {
     let measure = |(street, plan): (&Street, &Plan)| Case::about(street, request(&plan.offsets));
@@ -93,6 +104,15 @@ pub fn widths(streets: &[Street], plans: &[Plan]) -> Vec<(i64, i64)> {
         }
     };
     replies(&Program::cases(), &cases).iter().map(numbers).collect()
+}
+
+/// Holds such plans to what they promise, by the widths that `cases` itself measures, and gives them back to be counted.
+pub fn promised(asked: &[(Street, Vec<Ask>)]) -> Vec<Plan> {
+    let (streets, plans) = planned(asked);
+    for ((widths, plan), street) in widths(&streets, &plans).into_iter().zip(&plans).zip(&streets) {
+        assert!(as_promised(street, plan, widths), "{widths:?} and {plan:?} on {street:?}");
+    }
+    plans
 }
 
 /// Some requests about one sheet, and the text that each of them gets.

@@ -2,10 +2,10 @@
 //!
 //! The model (`street`, `equal`, `moved`, `volumes`, `survey`, `bands`, `named`, `exact`, `sheet`, `printed`, `cases`,
 //! `client`) follows the rules' signed formulas as they stand, by brute force, and shares nothing with the proved crates.
-//! The rest makes sheets, rows and requests (`random`, `streets`, `limits`, `damage`, `rows`, `offsets`, `asks`), runs the
-//! programs and the scripts on them (`run`, `scripts`) and compares (`trial`, `hold`, `coverage`, `asked`, `asked_volumes`,
-//! `asked_survey`, `tally`); `page`, `paper` and `decimal` read the pages whose sheets and tables are run, and `pencil`
-//! works out what a page does by hand. `specs` reads the definitions themselves, for what is said of their names, and
+//! The rest makes sheets, rows and requests (`random`, `streets`, `limits`, `damage`, `rows`, `offsets`, `asks`,
+//! `resting`), runs the programs and the scripts on them (`run`, `scripts`) and compares (`trial`, `hold`, `brute`,
+//! `coverage`, `asked`, `asked_volumes`, `asked_survey`, `tally`); `page`, `paper` and `decimal` read the pages whose sheets
+//! and tables are run, and `pencil` works out what a page does by hand. `specs` reads the definitions themselves, for what is said of their names, and
 //! `cited` (with `terms`) counts how many lines of them the contracts and the demands come to.
 
 pub mod asked;
@@ -13,6 +13,7 @@ pub mod asked_survey;
 pub mod asked_volumes;
 pub mod asks;
 pub mod bands;
+pub mod brute;
 pub mod cases;
 pub mod cited;
 pub mod client;
@@ -31,6 +32,7 @@ pub mod paper;
 pub mod pencil;
 pub mod printed;
 pub mod random;
+pub mod resting;
 pub mod rows;
 pub mod run;
 pub mod scripts;

@@ -30,9 +30,16 @@ impl Display for Ask {
     }
 }
 
-/// g: the shortest green of the street, which no band is wider than.
+/// g: the shortest green of the street, which no band is wider than; that of a signal that rests is the whole cycle.
 pub fn shortest_green(street: &Street) -> i64 {
     street.reds.iter().map(|red| street.halves() - 2 * red).min().expect("a street has a signal")
+}
+
+/// Every width that can be asked of a street that no check refuses, both ways.
+pub fn every_width(street: &Street) -> Vec<Ask> {
+    let (_, best) = Pairs::of(street).reference();
+    let range = best.max(1)..=shortest_green(street);
+    range.flat_map(|width| [Ask::Outbound(width), Ask::Inbound(width)]).collect()
 }
 
 /// The width that the paper prints for the larger of two platoons, by the sum of both.
@@ -106,6 +113,9 @@ fn moved(street: &Street, plan: Plan, ask: Ask, width: i64) -> Result<Plan, Refu
     let (c, _) = pairs.reference();
     let outwards = ask == Ask::Outbound(width);
     let lowering = |j: usize| {
+        if street.rests(j) {
+            return 0;
+        }
         let u = pairs.chosen(c, j);
         let by = if outwards { u - halves + width - best } else { width + 2 * street.reds[j] - u };
         by.max(0)

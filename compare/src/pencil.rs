@@ -18,7 +18,7 @@ pub fn green(street: &Street, offsets: &[i64], j: usize, at: i64) -> bool {
     clear(&alone, &offsets[j..], &[0], at)
 }
 
-/// The instants from 0 to H - 1 at which a signal's red and its green start.
+/// The instants from 0 to H - 1 at which the red and the green of a signal start, which does not rest in green.
 pub fn starts(street: &Street, offsets: &[i64], j: usize) -> [i64; 2] {
     let is = |now: bool, at: i64| green(street, offsets, j, at) == now;
     [false, true].map(|now| {

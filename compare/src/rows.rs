@@ -267,7 +267,7 @@ fn not_above(random: &mut Random, survey: &mut Survey) {
 
 fn a_red(random: &mut Random, survey: &mut Survey) {
     let (k, cycle) = (place(random, survey), survey.cycle);
-    let red = random.pick(&[0, 0, 1, cycle - 1, cycle, cycle, cycle + 1, LARGEST]);
+    let red = random.pick(&[0, 1, cycle - 1, cycle, cycle, cycle + 1, LARGEST]);
     survey.rows[k].red = red.clamp(0, LARGEST);
 }
 

@@ -45,6 +45,16 @@ impl Street {
         2 * self.cycle
     }
 
+    /// Whether a signal, counted from 0, rests in green: its red has no length.
+    pub fn rests(&self, j: usize) -> bool {
+        self.reds[j] == 0
+    }
+
+    /// The signals that have a red, counted from 0.
+    pub fn stopping(&self) -> Vec<usize> {
+        (0..self.signals()).filter(|&j| !self.rests(j)).collect()
+    }
+
     /// The first fault of a plan's input in the order of the codes, with a lent list of `room` entries.
     pub fn fault(&self, room: usize) -> Option<Refusal> {
         self.count_fault()
@@ -71,7 +81,7 @@ impl Street {
     }
 
     fn red_fault(&self) -> Option<Refusal> {
-        first(self.signals(), |k| outside(self.reds[k], (1, self.cycle - 1))).map(|place| refusal(5, place))
+        first(self.signals(), |k| outside(self.reds[k], (0, self.cycle - 1))).map(|place| refusal(5, place))
     }
 
     fn distance_fault(&self) -> Option<Refusal> {

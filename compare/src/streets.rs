@@ -1,6 +1,7 @@
 //! Random streets that no check refuses, of every kind that the rules tell apart.
 
 use crate::random::Random;
+use crate::resting::{rest, RESTING};
 use crate::street::{Street, CYCLE, MAX_DISTANCE, MAX_SIGNALS, SPEED};
 
 pub fn street(random: &mut Random) -> Street {
@@ -43,7 +44,7 @@ pub fn most_digits(random: &mut Random, n: usize) -> Street {
 pub fn fewest_digits(random: &mut Random, n: usize) -> Street {
     let mut speeds = || (1..n).map(|_| random.within(SPEED.0, 9_999)).collect::<Vec<i64>>();
     let (outbound, inbound) = (speeds(), speeds());
-    let reds = (0..n).map(|_| random.within(1, 9)).collect();
+    let reds = (0..n).map(|_| random.within(0, 9)).collect();
     Street { cycle: random.within(CYCLE.0, 99), reds, distances: (0..n as i64).collect(), outbound, inbound }
 }
 
@@ -68,6 +69,15 @@ fn cycle(random: &mut Random) -> i64 {
     }
 }
 
+/// The reds, now and then of a street where signals rest in green.
+fn some_at_rest(random: &mut Random, mut reds: Vec<i64>) -> Vec<i64> {
+    if random.one_in(5) {
+        let which = random.pick(&RESTING);
+        rest(random, &mut reds, which);
+    }
+    reds
+}
+
 /// One red each, by one style for the whole street: equal, wide, short, about half, at the ends, or any.
 fn reds(random: &mut Random, n: usize, cycle: i64) -> Vec<i64> {
     let (style, same) = (random.below(6), random.within(1, cycle - 1));
@@ -76,10 +86,11 @@ fn reds(random: &mut Random, n: usize, cycle: i64) -> Vec<i64> {
         1 => cycle - random.within(1, cycle / 8),
         2 => random.within(1, cycle / 8),
         3 => cycle / 2 + random.within(-cycle / 8, cycle / 8),
-        4 => random.pick(&[1, cycle - 1]),
+        4 => random.pick(&[0, 1, cycle - 1]),
         _ => random.within(1, cycle - 1),
     };
-    (0..n).map(one).collect()
+    let reds = (0..n).map(one).collect();
+    some_at_rest(random, reds)
 }
 
 /// Distances from gaps of one style: a few millimetres, a block, one length, whole multiples, or the longest street.
@@ -141,7 +152,7 @@ fn even(random: &mut Random) -> Street {
     let speed = random.pick(&[1_000, 10_000, 12_500, 40_000]);
     Street {
         cycle,
-        reds: vec![red; n],
+        reds: some_at_rest(random, vec![red; n]),
         distances: (0..n as i64).map(|k| k * gap).collect(),
         outbound: vec![speed; n - 1],
         inbound: vec![speed; n - 1],

@@ -8,6 +8,7 @@ use compare::equal::Pairs;
 use compare::moved::{shortest_green, MAX_PLATOON};
 use compare::page::{Page, Sample};
 use compare::random::Random;
+use compare::resting::{holds, rest, Resting, RESTING};
 use compare::rows::{Survey, LIMITS};
 use compare::run::{repository, text, Program};
 use compare::sheet::{read, write, written, LARGEST_SHEET, STREET_A};
@@ -135,6 +136,22 @@ fn the_client_is_right_on_the_sample_sheets() {
     hold(&runs);
 }
 
+#[test]
+fn the_client_is_right_on_streets_that_rest() {
+    let street = |(which, n): (Resting, usize)| {
+        let random = &mut Random::new(SEED + 2, n as u64);
+        let mut street = streets::sized(random, n, 600);
+        rest(random, &mut street.reds, which);
+        assert!(holds(&street, which), "{which}: {street:?}");
+        write(&street)
+    };
+    let sheets: Vec<Vec<u8>> = RESTING.into_iter().zip(3..).map(street).collect();
+    let asked = |sheet: &Vec<u8>| questions(sheet).into_iter().map(|words| piped(sheet, words)).collect();
+    let runs: Vec<Run> = sheets.iter().flat_map::<Vec<Run>, _>(asked).collect();
+    assert!(runs.len() >= 150, "{} starts", runs.len());
+    hold(&runs);
+}
+
 /// A request about a random street, whose sheet may be damaged.
 fn random_run(number: u64) -> Run {
     let random = &mut Random::new(SEED, number);
@@ -205,6 +222,7 @@ fn the_client_is_right_on_random_rows() {
     let random: Vec<Run> = (0..2 * RANDOM).map(random_rows).collect();
     let mut tally = Tally::of(&[
         ("planned", 80),
+        ("planned with a red of 0", 20),
         ("sheet code 2 ", 5),
         ("sheet code 12 ", 120),
         ("a row of another kind refused", 20),
@@ -219,7 +237,9 @@ fn the_client_is_right_on_random_rows() {
         let rows = numbered_rows(&run.sheet).expect("rows");
         let place = told.split(' ').nth(4).and_then(|place| place.parse::<usize>().ok()).expect("a place");
         let other = place > 0 && ![CHAINAGE, GAP].contains(&rows[place - 1].kind);
-        tally.note("planned", told.contains("plan code 0 "));
+        let planned = told.contains("plan code 0 ");
+        tally.note("planned", planned);
+        tally.note("planned with a red of 0", planned && rows.iter().any(|row| row.red == 0));
         tally.note("a row of another kind refused", other);
         for code in ["sheet code 2 ", "sheet code 12 ", "plan code 3 ", "plan code 4 ", "plan code 5 "] {
             tally.note(code, told.contains(code));
@@ -303,9 +323,11 @@ fn the_clients_shown_lines_are_the_models() {
     let cases = shown();
     let street_a = ["", " room 1", " unequal", " write 36", " write 35", " volumes 800 300 20"];
     let wanted = street_a.map(|words| format!("sheets/street-a.txt{words}"));
+    let resting = ["crossing.txt", "crossing.txt inbound 1320", "all.txt", "all.txt outbound 1199"]
+        .map(|words| format!("sheets/row-resting-{words}"));
     let rows = ["street-a.txt survey 100", "bad-kind.txt survey 100", "speed-of-zero.txt survey 100 room 2"]
         .map(|words| format!("client/rows/{words}"));
-    for words in wanted.iter().chain(&rows).map(String::as_str).chain(["empty"]) {
+    for words in wanted.iter().chain(&resting).chain(&rows).map(String::as_str).chain(["empty"]) {
         assert!(cases.iter().any(|(shown, _)| shown == words), "client/expected.txt does not show {words}");
     }
     for (line, text) in cases {

@@ -214,7 +214,7 @@ fn the_pages_tables_can_be_asked_as_they_stand() {
     }
     let shown = examples.text.lines().find(|line| line.starts_with("    printf ")).expect("a command");
     expect(shown, &bash(shown.trim()), 0, &surveys[0][2], TESTED);
-    assert_eq!((lines.len(), paper.len(), surveys.len()), (35, 19, 11));
+    assert_eq!((lines.len(), paper.len(), surveys.len()), (44, 19, 13));
 }
 
 #[test]
@@ -377,7 +377,7 @@ fn refused_rows_are_explained() {
         ("chainage -0.125 10 15 50", "12 2", "and its chainage, -0.125, is below 0"),
         ("chainage 20000.125 10 15 50", "12 2", "and its chainage, 20000.125, is above 20,000"),
         ("gap 20000 10 15 50\ngap 0.125 1 1 1", "12 3", "row 3 has \"gap 0.125 1 1 1\", and its signal, at 20000.125 m, is more than 20,000 m from the origin"),
-        ("gap 30 10 15 100", "5 2", "and its red, the last number, is not from 1 to 99 ticks; the cycle is 100 ticks, 10 s"),
+        ("gap 30 10 15 100", "5 2", "and its red, the last number, is not from 0 to 99 ticks; the cycle is 100 ticks, 10 s"),
         ("gap 0 10 15 50", "6 2", "and its signal, at 0 m from the origin, is not beyond that of row 1, at 0 m"),
         ("gap 30.5 10 15 50\nchainage 20.125 10 15 50", "6 3", "and its signal, at 20.125 m from the origin, is not beyond that of row 2, at 30.5 m"),
         ("gap 30 0.875 15 50", "7 1", "row 2 has \"gap 30 0.875 15 50\", and its outbound speed, 0.875, is not from 1 to 40 m/s"),

@@ -9,6 +9,7 @@ use compare::moved::{plan, Ask};
 use compare::named::{named, Named};
 use compare::offsets::{every, offsets};
 use compare::random::Random;
+use compare::resting::{holds, Resting};
 use compare::sheet::read;
 use compare::street::Street;
 use compare::streets;
@@ -32,6 +33,11 @@ impl Planned {
     /// The reported equal width, in units.
     fn equal(&self) -> i128 {
         self.fine.unit * i128::from(self.plans[0].outbound)
+    }
+
+    /// Whether some signal rests in green.
+    fn rests(&self) -> bool {
+        self.street.reds.contains(&0)
     }
 
     fn narrower(&self, offsets: &[i128]) -> i128 {
@@ -76,7 +82,7 @@ fn tiny(k: u64) -> Street {
     let mut along = random.within(0, 100);
     for _ in 0..n {
         let any = random.within(1, cycle - 1);
-        street.reds.push(random.pick(&[1, 2, 3, cycle / 2, any]));
+        street.reds.push(random.pick(&[0, 1, 2, 3, cycle / 2, any]));
         street.distances.push(along);
         along += step * random.within(1, 20);
     }
@@ -165,11 +171,16 @@ fn gains_little(tally: &mut Tally, planned: &Planned, offsets: &[i128]) {
         planned.street
     );
     tally.note("offsets that gain", narrower > planned.equal());
-    tally.note("offsets that gain m halves", planned.m() > 0 && narrower == most);
+    let gained = planned.m() > 0 && narrower == most;
+    tally.note("offsets that gain m halves", gained);
+    tally.note("offsets that gain m halves beside a red of 0", gained && planned.rests());
 }
 
-const WANTED: [(&str, usize); 9] = [
+const WANTED: [(&str, usize); 13] = [
     ("streets", 800),
+    ("streets with a red of 0", 200),
+    ("streets with a red of 0 and a rounded time", 100),
+    ("streets with every red 0", 20),
     ("streets with a rounded time", 400),
     ("streets with 5 signals or more", 30),
     ("plans", 3_000),
@@ -178,6 +189,7 @@ const WANTED: [(&str, usize); 9] = [
     ("equal plans that lose m halves", 5),
     ("offsets that gain", 100),
     ("offsets that gain m halves", 20),
+    ("offsets that gain m halves beside a red of 0", 5),
 ];
 
 #[test]
@@ -189,6 +201,9 @@ fn rounding_costs_no_more_than_m_halves() {
     for (k, planned) in planned((0..500).map(tiny).chain(few).chain(any).collect(), 4).iter().enumerate() {
         tally.note("streets", true);
         tally.note("streets with a rounded time", planned.m() > 0);
+        tally.note("streets with a red of 0", planned.rests());
+        tally.note("streets with a red of 0 and a rounded time", planned.rests() && planned.m() > 0);
+        tally.note("streets with every red 0", holds(&planned.street, Resting::All));
         tally.note("streets with 5 signals or more", planned.street.signals() >= 5);
         equal_plan_loses_little(&mut tally, planned);
         for plan in &planned.plans {
@@ -221,7 +236,7 @@ fn no_offsets_gain_more_than_m_halves() {
         streets::sized(random, n, cycle)
     };
     let few = |street: &Street| street.signals() < 3 || (street.signals() == 3 && street.cycle == 10);
-    let small = (0..240).map(tiny).filter(few);
+    let small = (0..960).map(tiny).filter(few);
     let all = planned(small.chain((0..40).map(street)).collect(), 0);
     let gained = in_parallel(&all, |planned| {
         let (widest, m) = (widest(planned), planned.fine.unit * planned.m());
@@ -229,8 +244,9 @@ fn no_offsets_gain_more_than_m_halves() {
         assert!(widest >= planned.equal() - m, "{widest} on {:?}", planned.street);
         (m > 0 && widest == planned.equal() + m).then_some(())
     });
-    println!("{} streets, {} of them gain m halves", all.len(), gained.len());
-    assert!(all.len() > 100 && gained.len() > 3, "too little is shown");
+    let resting = all.iter().filter(|planned| planned.rests()).count();
+    println!("{} streets, {resting} with a red of 0; {} gain m halves", all.len(), gained.len());
+    assert!(all.len() > 100 && resting > 30 && gained.len() > 3, "too little is shown");
 }
 
 #[test]

@@ -144,7 +144,7 @@ fn in_the_numbers(ten: &Sample) -> Vec<Slip> {
     vec![
         ("a cycle in thousandths", ten.typed(2, "65000"), "4 0", 2, "not from 10 to 6,000 ticks"),
         ("a cycle in seconds", ten.typed(2, "65"), "5 1", 4, "the cycle on line 2 is 65 ticks, 6.5 s"),
-        ("the cycle for a red", ten.typed(5, "167640 650"), "5 2", 5, "not from 1 to 649 ticks"),
+        ("the cycle for a red", ten.typed(5, "167640 650"), "5 2", 5, "not from 0 to 649 ticks"),
         (
             "a way from signal to signal",
             ten.typed(6, "21336 260"),
@@ -204,7 +204,8 @@ fn the_typists_sheets_lead_to_their_lines() {
     all.iter().for_each(|(good, told)| assert!(good, "{told}"));
     let shown: Vec<&str> = page.text.lines().filter_map(|line| line.strip_prefix("    plan: ")).collect();
     assert_eq!(shown.len(), 2);
-    for sentence in shown.into_iter().chain(["0.42 m from signal 1 to signal 2"]) {
+    let sizes = ["0.42 m from signal 1 to signal 2", "reds of 0 to 24 s, 450 m from signal 1 to signal 3"];
+    for sentence in shown.into_iter().chain(sizes) {
         assert!(
             all.iter().any(|(_, told)| told.contains(&format!("{sentence}\n"))),
             "no one says: {sentence}"
@@ -310,7 +311,7 @@ fn out_of_range(street: &Street, code: i64, place: i64) -> (usize, String) {
         4 => (2, "the cycle is not from 10 to 6,000 ticks, tenths of a second.".to_string()),
         5 => {
             let range = format!(
-                "the red of signal {place}, its second number, is not from 1 to {} ticks; ",
+                "the red of signal {place}, its second number, is not from 0 to {} ticks; ",
                 cycle - 1
             );
             (signal, range + &format!("the cycle on line 2 is {cycle} ticks, {} s.", in_unit(cycle, 10)))
@@ -520,7 +521,7 @@ fn about_street(street: &Street, rows: &[Row], code: i64, k: usize) -> String {
     let cycle = street.cycle;
     match code {
         5 => {
-            let range = format!("its red, the last number, is not from 1 to {} ticks; ", cycle - 1);
+            let range = format!("its red, the last number, is not from 0 to {} ticks; ", cycle - 1);
             range + &format!("the cycle is {}, {} s", counted(cycle, "tick"), in_unit(cycle, 10))
         }
         6 => {

@@ -2,12 +2,15 @@
 //!
 //! `COMPARE_SEED` sets the seed of the random cases, and `COMPARE_CASE` replays one of them by its number.
 
-use compare::bands::{directions, longest, measure, measure_fault, Band};
+use compare::bands::{directions, longest, measure_fault, Band};
+use compare::brute::beaten;
 use compare::cases::{request, Request};
 use compare::equal::Plan;
 use compare::hold::{compare_all, expect, hold, plans, widths};
+use compare::moved::Ask;
 use compare::offsets::{every, list, request as asking};
 use compare::random::Random;
+use compare::resting::{holds, Resting};
 use compare::sheet::{read, STREET_A};
 use compare::street::Street;
 use compare::streets;
@@ -38,6 +41,8 @@ fn cover(cases: &[Case]) {
         ("measured", 1_500),
         ("measured with 20 signals or more", 400),
         ("measured with a band and 20 signals or more", 200),
+        ("measured with a red of 0", 300),
+        ("measured with every red 0", 30),
         ("with both widths 0", 300),
         ("with one width 0", 100),
         ("with tied stretches", 60),
@@ -86,6 +91,8 @@ fn note_bands(tally: &mut Tally, street: &Street, stretches: [Vec<i64>; 2]) {
     tally.note("measured", true);
     tally.note("measured with 20 signals or more", many);
     tally.note("measured with a band and 20 signals or more", many && !bands.is_empty());
+    tally.note("measured with a red of 0", street.reds.contains(&0));
+    tally.note("measured with every red 0", holds(street, Resting::All));
     tally.note("with both widths 0", bands.is_empty());
     tally.note("with one width 0", bands.len() == 1);
     tally.note("with tied stretches", tied);
@@ -180,15 +187,9 @@ fn no_offsets_have_a_greater_smaller_width() {
     };
     let streets: Vec<Street> = (0..70).map(street).collect();
     let planned: Vec<(&Street, Plan)> = streets.iter().zip(equal_plans(&streets)).collect();
-    let smaller = |street: &Street, offsets: &[i64]| {
-        let (out, back) = measure(street, offsets);
-        out.width.min(back.width)
-    };
-    let beaten = in_parallel(&planned, |(street, plan)| {
-        let most = every(street).map(|offsets| smaller(street, &offsets)).max();
-        (most != Some(plan.best.max(0))).then(|| format!("{most:?} on {street:?}"))
-    });
-    assert!(beaten.is_empty(), "{beaten:?}");
+    let found =
+        in_parallel(&planned, |(street, plan)| beaten(street, &[Ask::Equal], std::slice::from_ref(plan)));
+    assert!(found.is_empty(), "{found:?}");
 }
 
 #[test]

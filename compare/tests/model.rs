@@ -119,9 +119,10 @@ fn the_first_fault_in_the_order_of_codes_is_named() {
         inbound: vec![40_000, 1_000],
     };
     assert_eq!(with(100, [1, 99, 50], [0, 1, 20_000_000], 40_000).fault(3), None);
-    assert_eq!(with(9, [0, 0, 0], [0, 0, 0], 0).fault(2), Some(refusal(3, 0)));
-    assert_eq!(with(6_001, [0, 0, 0], [0, 0, 0], 0).fault(3), Some(refusal(4, 0)));
-    assert_eq!(with(100, [1, 99, 100], [0, 0, 0], 0).fault(3), Some(refusal(5, 3)));
+    assert_eq!(with(100, [0, 99, 0], [0, 1, 20_000_000], 40_000).fault(3), None);
+    assert_eq!(with(9, [9, 9, 9], [0, 0, 0], 0).fault(2), Some(refusal(3, 0)));
+    assert_eq!(with(6_001, [6_001; 3], [0, 0, 0], 0).fault(3), Some(refusal(4, 0)));
+    assert_eq!(with(100, [0, 99, 100], [0, 0, 0], 0).fault(3), Some(refusal(5, 3)));
     assert_eq!(with(100, [1, 99, 50], [20_000_001, 1, 2], 0).fault(3), Some(refusal(6, 1)));
     assert_eq!(with(100, [1, 99, 50], [5, 6, 6], 0).fault(3), Some(refusal(6, 3)));
     assert_eq!(with(100, [1, 99, 50], [5, 6, 7], 999).fault(3), Some(refusal(7, 2)));

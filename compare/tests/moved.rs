@@ -4,12 +4,9 @@
 
 use compare::asked::cover;
 use compare::asks::{ask, room};
-use compare::bands::{clear, measure};
-use compare::equal::Plan;
-use compare::hold::{expect, hold, plans, plans_asked, widths};
-use compare::moved::{papers_width, plan, platoon_rule, shortest_green, Ask};
-use compare::named::{named, Named};
-use compare::offsets::every;
+use compare::brute::beaten;
+use compare::hold::{expect, hold, plans_asked, promised};
+use compare::moved::{every_width, papers_width, plan, platoon_rule, Ask};
 use compare::random::Random;
 use compare::sheet::STREET_A;
 use compare::street::Street;
@@ -150,32 +147,20 @@ fn a_request_of_another_form_is_bad() {
     expect(&bad.map(|requests| (requests, STREET_A, "bad request")));
 }
 
-/// Whether the named bands of a plan meet no red, and the measured widths are the reported ones.
-fn as_promised(street: &Street, plan: &Plan, (out, back): (i64, i64)) -> bool {
-    let open = |band: &Named| {
-        (band.start..band.start + band.width).all(|at| clear(street, &plan.offsets, &band.lags, at))
-    };
-    named(street, plan).iter().all(open) && (out, back) == (plan.outbound, plan.inbound)
-}
-
 #[test]
 fn a_moved_plan_has_the_bands_that_it_names() {
     let asked = |k: u64| {
         let random = &mut Random::new(SEED + 1, k);
         let street = streets::street(random);
         let ask = ask(random, &street);
-        plan(&street, ask, 32).is_ok().then_some((street, ask))
+        plan(&street, ask, 32).is_ok().then_some((street, vec![ask]))
     };
-    let (streets, asks): (Vec<Street>, Vec<Ask>) = (0..600).filter_map(asked).unzip();
-    let cases: Vec<Case> = streets.iter().zip(&asks).map(|(street, ask)| Case::about(street, ask)).collect();
-    let plans = plans(&cases);
-    for (((widths, plan), street), ask) in
-        widths(&streets, &plans).into_iter().zip(&plans).zip(&streets).zip(&asks)
-    {
-        assert!(as_promised(street, plan, widths), "{ask} with {widths:?} and {plan:?} on {street:?}");
-    }
+    let asked: Vec<(Street, Vec<Ask>)> = (0..600).filter_map(asked).collect();
+    let plans = promised(&asked);
     let one_sided = plans.iter().filter(|plan| plan.outbound.min(plan.inbound) == 0).count();
+    let resting = asked.iter().filter(|(street, _)| street.reds.contains(&0)).count();
     assert!(one_sided > 50, "{one_sided} plans leave a direction 0: this run shows too little");
+    assert!(resting > 50, "{resting} streets have a red of 0: this run shows too little");
 }
 
 /// A small street with every width that can be asked of it, both ways.
@@ -183,40 +168,14 @@ fn asked_everything(k: u64) -> (Street, Vec<Ask>) {
     let random = &mut Random::new(SEED + 2, k);
     let (n, cycle) = random.pick(&[(1, 20), (2, 10), (2, 15), (2, 24), (3, 10), (3, 11)]);
     let street = streets::sized(random, n, cycle);
-    let best = plan(&street, Ask::Equal, 32).expect("a plan").best;
-    let range = best.max(1)..=shortest_green(&street);
-    let asks = range.flat_map(|width| [Ask::Outbound(width), Ask::Inbound(width)]).collect();
+    let asks = every_width(&street);
     (street, asks)
-}
-
-/// The width that the side which did not ask has, and the most that it has where the other has what it asked for.
-fn other_side(ask: Ask, plan: &Plan, measured: &[(i64, i64)]) -> (i64, Option<i64>) {
-    let most = |w: i64, pair: fn(&(i64, i64)) -> (i64, i64)| {
-        measured.iter().map(pair).filter(|&(asked, _)| asked >= w).map(|(_, other)| other).max()
-    };
-    match ask {
-        Ask::Outbound(w) => (plan.inbound, most(w, |&(out, back)| (out, back))),
-        Ask::Inbound(w) => (plan.outbound, most(w, |&(out, back)| (back, out))),
-        _ => panic!("`{ask}` asks for no width"),
-    }
 }
 
 #[test]
 fn no_offsets_give_the_other_side_more() {
     let asked: Vec<(Street, Vec<Ask>)> = (0..40).map(asked_everything).collect();
     let served: Vec<_> = asked.iter().zip(plans_asked(&asked)).collect();
-    let found = in_parallel(&served, |((street, asks), plans)| {
-        let both = |offsets: Vec<i64>| {
-            let (out, back) = measure(street, &offsets);
-            (out.width, back.width)
-        };
-        let measured: Vec<(i64, i64)> = every(street).map(both).collect();
-        let differs = |&(ask, plan): &(&Ask, &Plan)| {
-            let (reported, most) = other_side(*ask, plan, &measured);
-            most != Some(reported)
-        };
-        let beaten = asks.iter().zip(plans).find(differs);
-        beaten.map(|(ask, plan)| format!("{ask} gets {plan:?} on {street:?}"))
-    });
+    let found = in_parallel(&served, |((street, asks), plans)| beaten(street, asks, plans));
     assert!(found.is_empty(), "{found:?}");
 }

@@ -3,7 +3,7 @@
 use compare::bands::{measure, Band};
 use compare::cases::{input, output};
 use compare::decimal::{decimal, digits, gain, grouped, nearest, number, seconds};
-use compare::equal::{equal, Plan};
+use compare::equal::{equal, Pairs, Plan};
 use compare::moved::{Ask, MAX_PLATOON};
 use compare::named::named;
 use compare::page::{coded, sheet, street, Page, Sample};
@@ -12,6 +12,7 @@ use compare::paper::{
 };
 use compare::paper::{LINKS, PARTS, REPLIES, SIGNALS, TWO_SECONDS};
 use compare::printed::{plan_prints, printed};
+use compare::resting::taken_out;
 use compare::rows::typed;
 use compare::run::Program;
 use compare::sheet::{read, write, LARGEST_SHEET};
@@ -32,7 +33,7 @@ fn the_typists_page_is_read_whole() {
     let (page, samples) = typists();
     let starts = |mark: &str| page.text.lines().filter(|line| line.starts_with(mark)).count();
     let blocks = page.blocks().len();
-    assert_eq!((blocks, page.slips().len()), (21, 21));
+    assert_eq!((blocks, page.slips().len()), (22, 21));
     assert_eq!((starts("Prints:"), starts("```sheet"), starts("```")), (blocks, blocks, 2 * blocks));
     let slips = page.text.lines().filter(|line| line.starts_with('|') && line.contains("| `refused"));
     assert_eq!(slips.count(), page.slips().len());
@@ -78,7 +79,7 @@ fn examples() -> Vec<(Vec<u8>, String)> {
 #[test]
 fn the_examples_come_out() {
     let examples = examples();
-    assert_eq!(examples.len(), 35 + 11);
+    assert_eq!(examples.len(), 44 + 13);
     let bytes = input(&examples.iter().map(|(case, _)| case).collect::<Vec<_>>());
     let expected: String = examples.iter().map(|(_, reply)| format!("{reply}\n")).collect();
     assert_eq!(output(&bytes), expected, "the model");
@@ -159,6 +160,27 @@ fn the_examples_show_how_rows_become_a_street() {
     let first = surveys[0][0].replace('\n', "\\n");
     let command = format!("    printf '{first}' | ./ask {}", surveys[0][1]);
     assert!(page.text.contains(&command), "the page has no {command}");
+}
+
+#[test]
+fn the_examples_show_what_a_signal_that_rests_does() {
+    let [crossing, one, all] =
+        ["crossing", "one-red", "all"].map(|name| street(&format!("row-resting-{name}.txt")));
+    let best = |street: &Street| (Pairs::of(street).reference().1, Pairs::of(street).papers_reference().1);
+    let ((b, papers), (green, cut), (whole, _)) = (best(&crossing), best(&one), best(&all));
+    let offsets =
+        [Ask::Equal, Ask::Outbound(1_320), Ask::Inbound(1_320)].map(|ask| asked(&crossing, ask).offsets[1]);
+    assert_eq!((asked(&taken_out(&crossing), Ask::Equal).best, offsets), (b, [45; 3]));
+    assert_eq!((green, whole), (one.halves() - 2 * one.reds[0], all.halves()));
+    let page = Page::open("EXAMPLES.md");
+    let told = [
+        format!("B is {b}, as on the street without it."),
+        format!("a red of no length would still cut the band, and B would be {papers}."),
+        format!("Its offset is {}, from the travel times alone;", offsets[0]),
+        format!("With one red of a tick B is the whole green, {green}, where the formula has {cut}."),
+        format!("Where every signal rests B is the whole cycle, {whole}, the only width"),
+    ];
+    told.iter().for_each(|sentence| page.says(sentence));
 }
 
 #[test]

@@ -189,19 +189,19 @@ fn faults_are_named_in_the_order_of_the_codes() {
     expect_typed(&[
         (&all, "", "refused 2 0"),
         (&all, &many, "refused 2 0"),
-        (&all, "chainage 0.0625 1 0 0, gap nan 0 0 9, chainage 20000.125 0 41 10", "refused 12 1"),
-        (&all, "chainage 0.125 1 0 0, gap nan 0 0 9, chainage 20000.125 0 41 10", "refused 12 1"),
-        (&all, "chainage 0.125 0 0 0, gap nan 0 0 9, chainage 20000.125 0 41 10", "refused 12 2"),
-        (&roomy, "chainage 0.125 0 0 0, gap nan 0 0 9, chainage 20000.125 0 41 10", "refused 12 2"),
-        (&good, "chainage 0.125 0 0 0, gap nan 0 0 9, chainage 20000.125 0 41 10", "refused 12 2"),
-        (&all, "chainage 0.125 0 0 0, gap 20000 0 0 9, chainage 20000.125 0 41 10", "refused 12 2"),
-        (&all, "chainage 0.125 0 0 0, gap 0 0 0 9, chainage 20000.125 0 41 10", "refused 12 3"),
-        (&all, "chainage 0.125 0 0 0, gap 0 0 0 9, chainage 0 inf 41 10", "refused 12 3"),
-        (&all, "chainage 0.125 0 0 0, gap 0 0 0 9, chainage 0 0 41 10", "refused 3 0"),
-        (&roomy, "chainage 0.125 0 0 0, gap 0 0 0 9, chainage 0 0 41 10", "refused 4 0"),
-        (&["survey 6001"], "chainage 0.125 0 0 0, gap 0 0 0 9, chainage 0 0 41 10", "refused 4 0"),
-        (&good, "chainage 0.125 0 0 0, gap 0 0 0 9, chainage 0 0 41 10", "refused 5 1"),
-        (&good, "chainage 0.125 0 0 1, gap 0 0 0 9, chainage 0 0 41 10", "refused 5 3"),
+        (&all, "chainage 0.0625 1 0 10, gap nan 0 0 9, chainage 20000.125 0 41 10", "refused 12 1"),
+        (&all, "chainage 0.125 1 0 10, gap nan 0 0 9, chainage 20000.125 0 41 10", "refused 12 1"),
+        (&all, "chainage 0.125 0 0 10, gap nan 0 0 9, chainage 20000.125 0 41 10", "refused 12 2"),
+        (&roomy, "chainage 0.125 0 0 10, gap nan 0 0 9, chainage 20000.125 0 41 10", "refused 12 2"),
+        (&good, "chainage 0.125 0 0 10, gap nan 0 0 9, chainage 20000.125 0 41 10", "refused 12 2"),
+        (&all, "chainage 0.125 0 0 10, gap 20000 0 0 9, chainage 20000.125 0 41 10", "refused 12 2"),
+        (&all, "chainage 0.125 0 0 10, gap 0 0 0 9, chainage 20000.125 0 41 10", "refused 12 3"),
+        (&all, "chainage 0.125 0 0 10, gap 0 0 0 9, chainage 0 inf 41 10", "refused 12 3"),
+        (&all, "chainage 0.125 0 0 10, gap 0 0 0 9, chainage 0 0 41 10", "refused 3 0"),
+        (&roomy, "chainage 0.125 0 0 10, gap 0 0 0 9, chainage 0 0 41 10", "refused 4 0"),
+        (&["survey 6001"], "chainage 0.125 0 0 10, gap 0 0 0 9, chainage 0 0 41 10", "refused 4 0"),
+        (&good, "chainage 0.125 0 0 10, gap 0 0 0 9, chainage 0 0 41 10", "refused 5 1"),
+        (&good, "chainage 0.125 0 0 0, gap 0 0 0 9, chainage 0 0 41 10", "refused 5 3"),
         (&good, "chainage 0.125 0 0 1, gap 0 0 0 9, chainage 0 0 41 4294967295", "refused 5 3"),
         (&good, "chainage 0.125 0 0 1, gap 0 0 0 9, chainage 0 0 41 9", "refused 6 2"),
         (&good, "chainage 0.125 0 0 1, gap 0.125 0 0 9, chainage 0 0 41 9", "refused 6 3"),
@@ -292,7 +292,8 @@ fn the_model_accepts_what_arithmetic_on_floats_does() {
 #[test]
 fn rows_get_the_plan_of_the_street_typed_by_hand() {
     let program = Program::cases();
-    let mut tally = Tally::of(&[("planned", 800), ("20 signals or more", 300), ("rounded", 500)]);
+    let mut tally =
+        Tally::of(&[("planned", 800), ("20 signals or more", 300), ("a red of 0", 100), ("rounded", 500)]);
     let (mut surveys, mut sheets): (Vec<Case>, Vec<Case>) = (vec![], vec![]);
     for k in 0..1_000 {
         let random = &mut Random::new(SEED + 2, k);
@@ -303,6 +304,7 @@ fn rows_get_the_plan_of_the_street_typed_by_hand() {
         surveys.push(Case { number: k, request: format!("survey {cycle}{room}"), sheet: rows });
         sheets.push(Case::about(&street, format!("equal{room}")));
         tally.note("20 signals or more", street.signals() >= 20);
+        tally.note("a red of 0", street.reds.contains(&0));
     }
     let typed = replies(&program, &sheets);
     for ((answer, text), case) in replies(&program, &surveys).iter().zip(typed).zip(&surveys) {

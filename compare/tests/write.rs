@@ -7,6 +7,7 @@ use compare::cases::{reply, request, Request, SHEET_ROOM};
 use compare::hold::{compare_all, expect, hold, replies, Row};
 use compare::page::{listed, sheet, Page};
 use compare::random::Random;
+use compare::resting::{holds, Resting};
 use compare::run::Program;
 use compare::sheet::{read, write, written, STREET_A};
 use compare::street::{refusal, Refusal, Street, CYCLE, MAX_DISTANCE, MAX_SIGNALS, SPEED};
@@ -59,6 +60,8 @@ fn cover(cases: &[Case]) {
         ("written with 1 signal", 150),
         ("written with 20 signals or more", 500),
         ("written with 32 signals", 200),
+        ("written with a red of 0", 300),
+        ("written with every red 0", 30),
         ("written with no list named", 400),
         ("written into a list of exactly its length", 400),
         ("written into the longest list", 100),
@@ -103,6 +106,8 @@ fn note_written(tally: &mut Tally, case: &Case, street: &Street, room: usize) {
     tally.note("written with 1 signal", n == 1);
     tally.note("written with 20 signals or more", n >= 20);
     tally.note("written with 32 signals", n == MAX_SIGNALS);
+    tally.note("written with a red of 0", street.reds.contains(&0));
+    tally.note("written with every red 0", holds(street, Resting::All));
     tally.note("written with no list named", case.request == "write");
     tally.note("written into a list of exactly its length", room == length);
     tally.note("written into the longest list", room == SHEET_ROOM && case.request != "write");
@@ -221,7 +226,7 @@ fn faults_are_named_in_the_order_of_the_codes() {
 #[test]
 fn lists_that_make_no_street_are_refused_before_anything_else() {
     let street = read(STREET_A).expect("street A");
-    let spoilt = Street { cycle: 9, reds: vec![0, 0], ..street.clone() };
+    let spoilt = Street { cycle: 9, reds: vec![9, 9], ..street.clone() };
     let none = Street { cycle: 9, reds: vec![], distances: vec![], outbound: vec![], inbound: vec![] };
     let shorter = Street { distances: vec![0], ..spoilt.clone() };
     let out = Street { outbound: vec![], ..spoilt.clone() };

@@ -11,13 +11,14 @@ fn clear(s: &Street, offsets: &[u32], lag: &impl Fn(usize) -> i32, departure: i3
     })
 }
 
-/// The width of the longest stretch, and its smallest start. The cycle is walked twice, for a stretch over its end.
+/// The width of the longest stretch, and its smallest start. The cycle is walked twice, for a stretch over its end; none is
+/// longer than the cycle.
 fn band(s: &Street, offsets: &[u32], lag: impl Fn(usize) -> i32) -> (u32, u32) {
     let halves = s.halves() as usize;
     let departures: Vec<bool> = (0..s.halves()).map(|departure| clear(s, offsets, &lag, departure)).collect();
     let (mut width, mut start, mut run) = (0, 0, 0);
     for at in 0..2 * halves {
-        run = if departures[at % halves] { run + 1 } else { 0 };
+        run = if departures[at % halves] { halves.min(run + 1) } else { 0 };
         let from = at + 1 - run;
         if from < halves && (run > width || run == width && run > 0 && from < start) {
             width = run;

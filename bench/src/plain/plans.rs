@@ -12,21 +12,26 @@ fn width(s: &Street, i: usize, j: usize, e: i32) -> i32 {
     u(s, i, j, e) - 2 * s.reds[j]
 }
 
-/// b(i).
-fn b(s: &Street, i: usize) -> i32 {
-    (0..s.signals).map(|j| width(s, i, j, 0).max(width(s, i, j, s.cycle))).min().unwrap()
+/// The signals that have a red.
+fn stopping(s: &Street) -> impl Iterator<Item = usize> + '_ {
+    (0..s.signals).filter(move |&j| s.stops(j))
 }
 
-/// The reference's index and B.
+/// b(i), where i has a red.
+fn b(s: &Street, i: usize) -> i32 {
+    stopping(s).map(|j| width(s, i, j, 0).max(width(s, i, j, s.cycle))).min().unwrap()
+}
+
+/// The reference's index and B; where every signal rests, the first and H.
 fn reference(s: &Street) -> (usize, i32) {
-    let mut best = (0, b(s, 0));
-    for i in 1..s.signals {
+    let mut best = None;
+    for i in stopping(s) {
         let b = b(s, i);
-        if b > best.1 {
-            best = (i, b);
+        if best.map_or(true, |(_, most)| b > most) {
+            best = Some((i, b));
         }
     }
-    best
+    best.unwrap_or((0, s.halves()))
 }
 
 fn g(s: &Street) -> i32 {
@@ -38,20 +43,20 @@ pub fn range(s: &Street) -> (i32, i32) {
 }
 
 fn phase(s: &Street, c: usize, j: usize) -> i32 {
-    if width(s, c, j, s.cycle) > width(s, c, j, 0) {
+    if s.stops(j) && width(s, c, j, s.cycle) > width(s, c, j, 0) {
         s.cycle
     } else {
         0
     }
 }
 
-/// Signal j's offset, lowered where an outbound width is asked for.
+/// Signal j's offset, lowered where an outbound width is asked for and it has a red.
 fn offset(s: &Street, c: usize, best: i32, asked: Option<i32>, j: usize) -> i32 {
     let e = phase(s, c, j);
     let equal = s.man(s.t(c, j) + s.t_back(c, j) + e);
     match asked {
-        None => equal,
-        Some(w) => s.man(equal - (u(s, c, j, e) - s.halves() + w - best).max(0)),
+        Some(w) if s.stops(j) => s.man(equal - (u(s, c, j, e) - s.halves() + w - best).max(0)),
+        _ => equal,
     }
 }
 

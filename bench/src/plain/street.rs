@@ -32,7 +32,7 @@ pub fn check(
         return Err((4, 0));
     }
     for i in 0..n {
-        if reds[i] < 1 || reds[i] >= cycle {
+        if reds[i] >= cycle {
             return Err((5, i as u32 + 1));
         }
     }
@@ -72,6 +72,11 @@ impl Street {
             }
         }
         s
+    }
+
+    /// Whether signal j has a red; else it rests in green.
+    pub fn stops(&self, j: usize) -> bool {
+        self.reds[j] > 0
     }
 
     /// H, the cycle in halves.

@@ -19,7 +19,10 @@ impl Found<'_> {
         let [even, odd] = pair(s.cycle, self.places[self.c], self.places[j], s.reds[j]);
         let (phase, raised) = if odd <= even { (0, even) } else { (s.cycle, odd) };
         let u = raised + 2 * s.reds[j] - h;
-        let down = self.width.map_or(0, |width| (u + width).saturating_sub(self.raised));
+        let down = match self.width {
+            Some(width) if s.reds[j] > 0 => (u + width).saturating_sub(self.raised),
+            _ => 0,
+        };
         let ahead = s.out[j] + s.back[self.c] + phase;
         let behind = s.out[self.c] + s.back[j] + down;
         remainder(h, ahead, behind)

@@ -29,19 +29,20 @@ pub fn reduced(s: &Street) -> Places {
     places
 }
 
-/// A pair's two raised widths.
+/// A pair's two raised widths. A signal that rests in green limits nothing: no width is above H.
 pub fn pair(cycle: u32, from: u32, to: u32, red: u32) -> [u32; 2] {
     let h = 2 * cycle;
     let even = back(h, from, to);
     let odd = back(h, even, cycle);
-    [2 * h - even - 2 * red, 2 * h - odd - 2 * red]
+    [even, odd].map(|gone| if red == 0 { 2 * h } else { 2 * h - gone - 2 * red })
 }
 
 fn least(pairs: &[[u32; 2]]) -> u32 {
     pairs.iter().map(|pair| pair[0].max(pair[1])).min().unwrap_or(0)
 }
 
-/// The index of the reference, and B raised by H.
+/// The index of the reference, and B raised by H. A signal that rests is no candidate; where all do, it is the first one,
+/// and B is H.
 pub fn reference(s: &Street, places: &Places) -> (usize, u32) {
     let n = s.signals;
     let mut widths = [[[0; 2]; MAX_SIGNALS]; MAX_SIGNALS];
@@ -50,12 +51,12 @@ pub fn reference(s: &Street, places: &Places) -> (usize, u32) {
             *entry = pair(s.cycle, from, to, red);
         }
     }
-    let mut best = (0, least(&widths[0][..n]));
-    for (k, row) in widths[..n].iter().enumerate().skip(1) {
+    let mut best = None;
+    for (k, row) in widths[..n].iter().enumerate().filter(|&(k, _)| s.reds[k] > 0) {
         let raised = least(&row[..n]);
-        if best.1 < raised {
-            best = (k, raised);
+        if best.map_or(true, |(_, most)| most < raised) {
+            best = Some((k, raised));
         }
     }
-    best
+    best.unwrap_or((0, 4 * s.cycle))
 }

@@ -35,7 +35,7 @@ pub fn judge(
     if !(10..=6_000).contains(&cycle) {
         return Err((4, 0));
     }
-    if let Some(i) = reds.iter().position(|red| !(1..cycle).contains(red)) {
+    if let Some(i) = reds.iter().position(|&red| red >= cycle) {
         return Err((5, place(i)));
     }
     if let Some(i) = (0..n).find(|&i| distances[i] > 20_000_000 || i > 0 && distances[i] <= distances[i - 1]) {

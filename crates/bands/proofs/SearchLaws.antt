@@ -24,7 +24,6 @@ pub fitting : (s : Timed) (ends : List ℕ) → Sound s → OnCycle s ends → F
 fitting s ends ok on =
     record {
       turns = omega (arith, ok .shortest);
-      stops = λ j l. omega (arith, ok .stops j l);
       goes = λ j l. omega (arith, ok .goes j l);
       each = on .each;
     }

@@ -1,21 +1,12 @@
 -- Departures, stretches and bands (01, 'Red, departure, band' and 'Measuring'), over any cycle, reds and lags. A direction is its lags, a unit its numbers: outbound and
 -- inbound, rounded and exact are arguments of the same definitions.
 use Prim.Native.Nat.{ℕ, zero, suc, _+_, _-_, _*_}
-use mathlib.Core.Bool.{Bool, true, false, cond, not}
+use mathlib.Core.Bool.{Bool, cond}
 use lib.IntN.{pos, _-ℤ_}
 use lib.Dec.{leb}
 use Rattle.circle.specs.Man.{man}
-use Rattle.circle.specs.Over.{firstBelow, indexOf}
+use Rattle.circle.specs.Over.{firstBelow, indexOf, allBelow, someBelow}
 use Rattle.circle.specs.Method.{Timed, halves, redStart}
-
--- whether every index below n passes the test
-unfoldable pub allBelow : ℕ → (ℕ → Bool) → Bool
-allBelow zero test = true
-allBelow (suc n) test = cond (allBelow n test) (test n) false
-
--- whether some index below n passes it
-abbrev pub someBelow : ℕ → (ℕ → Bool) → Bool
-someBelow n test = not (allBelow n (λ k. not (test k)))
 
 -- the greatest number up to n that passes the test, or 0 where none does
 unfoldable pub greatestUpTo : ℕ → (ℕ → Bool) → ℕ
@@ -32,7 +23,7 @@ pub record Way : Type 0 where
   pub lag : ℕ → ℕ
 
 -- whether the departure at the instant x meets no red: at each signal its instant is at least the red's length after the red's start, round the cycle. The start is red and the
--- end is green; a red of length 0 blocks nothing
+-- end is green; a red of no length blocks nothing
 unfoldable pub clear : Way → ℕ → Bool
 clear w x = allBelow (w .signals) (λ j. leb (w .length j) (man (w .around) (pos (x + w .lag j) -ℤ pos (w .start j))))
 

@@ -1,10 +1,12 @@
--- The published method for equal bands (01, 'Units and the street' and 'The equal plan'). Signals are indices from 0 here, so signal 1 is index 0.
+-- The published method for equal bands (01, 'Units and the street' and 'The equal plan'), as amended for signals that rest in green (02, 2026-05). Signals are indices from 0 here,
+-- so signal 1 is index 0.
 -- Reds, times and the cycle C are in ticks; u, widths and offsets are in halves, of which a cycle has H = 2C.
-use mathlib.Core.Bool.{cond}
+use mathlib.Core.Bool.{Bool, cond}
 use Prim.Native.Nat.{ℕ, _-_, _*_}
 use lib.IntN.{ℤ, pos, _+ℤ_, _-ℤ_}
+use lib.Dec.{ltb}
 use Rattle.circle.specs.Signed.{leℤ, eqℤ, maxℤ, orZero}
-use Rattle.circle.specs.Over.{firstBelow, leastBelow, greatestBelow, indexOf}
+use Rattle.circle.specs.Over.{_and_, firstBelow, leastWhere, greatestWhere, indexOf}
 use Rattle.circle.specs.Man.{man}
 
 -- what the method is told of a street: the cycle, how many signals, each one's red, and for each signal the outbound time from signal 1 to it and the
@@ -36,21 +38,25 @@ u s i j e = halves s - man (halves s) (pos (s .red i) -ℤ pos (s .red j) +ℤ t
 unfoldable pub pairWidth : Timed → ℕ → ℕ → ℕ → ℤ
 pairWidth s i j e = pos (u s i j e) -ℤ pos (2 * s .red j)
 
--- b(i): the least over all signals j, i included, of the larger of the pair's two widths
+-- whether signal j has a red; one whose red has no length rests in green (02, 2026-05)
+abbrev pub hasRed : Timed → ℕ → Bool
+hasRed s j = ltb 0 (s .red j)
+
+-- b(i): the least, over the signals j that have a red, i included, of the larger of the pair's two widths; a resting signal is no limit (02, 2026-05)
 unfoldable pub b : Timed → ℕ → ℤ
-b s i = leastBelow (s .signals) (λ j. maxℤ (pairWidth s i j 0) (pairWidth s i j (s .cycle)))
+b s i = leastWhere (pos (halves s)) (s .signals) (hasRed s) (λ j. maxℤ (pairWidth s i j 0) (pairWidth s i j (s .cycle)))
 
--- B: the greatest b(i), signed
+-- B: the greatest b(i) over the signals i that have a red, signed; H where no signal has one (02, 2026-05)
 unfoldable pub B : Timed → ℤ
-B s = greatestBelow (s .signals) (b s)
+B s = greatestWhere (pos (halves s)) (s .signals) (hasRed s) (b s)
 
--- the reference c: the smallest i with b(i) = B
+-- the reference c: the first i that has a red and b(i) = B; signal 1 where no signal has a red (02, 2026-05)
 unfoldable pub reference : Timed → ℕ
-reference s = indexOf (firstBelow (s .signals) (λ i. eqℤ (b s i) (B s)))
+reference s = indexOf (firstBelow (s .signals) (λ i. hasRed s i and eqℤ (b s i) (B s)))
 
--- the phase of signal j against a reference c: the better one, 0 on a tie
+-- the phase of signal j against a reference c: the better one, 0 on a tie, and 0 where j rests (02, 2026-05)
 unfoldable pub phase : Timed → ℕ → ℕ → ℕ
-phase s c j = cond (leℤ (pairWidth s c j (s .cycle)) (pairWidth s c j 0)) 0 (s .cycle)
+phase s c j = cond (hasRed s j) (cond (leℤ (pairWidth s c j (s .cycle)) (pairWidth s c j 0)) 0 (s .cycle)) 0
 
 -- signal j's offset in the equal plan with reference c
 unfoldable pub offset : Timed → ℕ → ℕ → ℕ

@@ -7,9 +7,9 @@ use lib.Dec.{eqb}
 use Rattle.circle.specs.Signed.{leℤ, maxℤ, orZero}
 use Rattle.circle.specs.Over.{leastBelow}
 use Rattle.circle.specs.Man.{man}
-use Rattle.circle.specs.Method.{Timed, halves, u, B, reference, phase, offset}
+use Rattle.circle.specs.Method.{Timed, halves, hasRed, u, B, reference, phase, offset}
 
--- g: the least H - 2r(j), the widest band that any signal lets through
+-- g: the least H - 2r(j), the widest band that every signal lets through; one that rests in green lets H through (02, 2026-05)
 unfoldable pub g : Timed → ℤ
 g s = leastBelow (s .signals) (λ j. pos (halves s) -ℤ pos (2 * s .red j))
 
@@ -21,13 +21,13 @@ inRange s w = cond (leℤ (maxℤ (pos 1) (B s)) (pos w)) (leℤ (pos w) (g s)) 
 unfoldable pub chosen : Timed → ℕ → ℕ
 chosen s j = u s (reference s) j (phase s (reference s) j)
 
--- by how much signal j's offset is lowered for an outbound width w: u(j) - H + w - B, or nothing when that is negative
+-- by how much signal j's offset is lowered for an outbound width w: u(j) - H + w - B, or nothing when that is negative; a resting signal is never lowered (02, 2026-05)
 unfoldable pub outboundLowering : Timed → ℕ → ℕ → ℕ
-outboundLowering s w j = orZero (pos (chosen s j) -ℤ pos (halves s) +ℤ pos w -ℤ B s)
+outboundLowering s w j = cond (hasRed s j) (orZero (pos (chosen s j) -ℤ pos (halves s) +ℤ pos w -ℤ B s)) 0
 
 -- and for an inbound width w: w + 2r(j) - u(j), or nothing when negative
 unfoldable pub inboundLowering : Timed → ℕ → ℕ → ℕ
-inboundLowering s w j = orZero (pos w +ℤ pos (2 * s .red j) -ℤ pos (chosen s j))
+inboundLowering s w j = cond (hasRed s j) (orZero (pos w +ℤ pos (2 * s .red j) -ℤ pos (chosen s j))) 0
 
 -- signal j's offset in the equal plan, lowered round the cycle
 unfoldable pub lowered : Timed → (ℕ → ℕ) → ℕ → ℕ

@@ -1,5 +1,5 @@
 -- Sums, choices and searches over the indices below a count. An index stands for a signal or a link; index 0 is number 1 on the street.
-use mathlib.Core.Bool.{Bool, true, false, cond}
+use mathlib.Core.Bool.{Bool, true, false, cond, not}
 use Prim.Native.Nat.{ℕ, zero, suc, _+_}
 use mathlib.Core.List.{List, [], _∷_, _++_}
 use lib.IntN.{ℤ, pos}
@@ -37,17 +37,31 @@ sumBelow (suc n) f = sumBelow n f + f n
 abbrev pub countBelow : ℕ → (ℕ → Bool) → ℕ
 countBelow n test = sumBelow n (λ k. cond (test k) 1 0)
 
--- the least of f over the indices below n; there is no street with n = 0, and 0 stands for it
-unfoldable pub leastBelow : ℕ → (ℕ → ℤ) → ℤ
-leastBelow zero f = pos 0
-leastBelow (suc zero) f = f 0
-leastBelow (suc (suc n)) f = minℤ (leastBelow (suc n) f) (f (suc n))
+-- whether every index below n passes the test
+unfoldable pub allBelow : ℕ → (ℕ → Bool) → Bool
+allBelow zero test = true
+allBelow (suc n) test = cond (allBelow n test) (test n) false
 
--- the greatest of f over the indices below n; 0 for n = 0
-unfoldable pub greatestBelow : ℕ → (ℕ → ℤ) → ℤ
-greatestBelow zero f = pos 0
-greatestBelow (suc zero) f = f 0
-greatestBelow (suc (suc n)) f = maxℤ (greatestBelow (suc n) f) (f (suc n))
+-- whether some index below n passes it
+abbrev pub someBelow : ℕ → (ℕ → Bool) → Bool
+someBelow n test = not (allBelow n (λ k. not (test k)))
+
+-- what a rule for two numbers makes of f over the indices below n that pass the test, one after the other; `none` where no index passes
+unfoldable pub overBelow : (ℤ → ℤ → ℤ) → ℤ → ℕ → (ℕ → Bool) → (ℕ → ℤ) → ℤ
+overBelow rule none zero test f = none
+overBelow rule none (suc n) test f =
+    cond (test n) (cond (someBelow n test) (rule (overBelow rule none n test f) (f n)) (f n)) (overBelow rule none n test f)
+
+-- the least of f over the indices below n that pass the test, and the greatest
+abbrev pub leastWhere : ℤ → ℕ → (ℕ → Bool) → (ℕ → ℤ) → ℤ
+leastWhere none n test f = overBelow minℤ none n test f
+
+abbrev pub greatestWhere : ℤ → ℕ → (ℕ → Bool) → (ℕ → ℤ) → ℤ
+greatestWhere none n test f = overBelow maxℤ none n test f
+
+-- the least of f over all indices below n; there is no street with n = 0, and 0 stands for it
+abbrev pub leastBelow : ℕ → (ℕ → ℤ) → ℤ
+leastBelow n f = leastWhere (pos 0) n (λ k. true) f
 
 -- the index that a search found, or 0 where it found none
 abbrev pub indexOf : Found → ℕ

@@ -1,7 +1,7 @@
 -- Offsets worked out, on the three signals of the method's examples: the reference is the second, at place 0 with B = 5, raised 25; the others stand at 4 and 17. Assumes nothing.
 use mathlib.Core.Path.{_≡_, refl}
 use mathlib.Core.List.{[], _∷_}
-use Rattle.circle.specs.Over.{firstBelow, leastBelow, greatestBelow, listBelow}
+use Rattle.circle.specs.Over.{firstBelow, listBelow, allBelow, overBelow}
 use Rattle.circle.specs.Method.{u, pairWidth, b, B, reference, phase, offset}
 use Rattle.circle.specs.Moved.{chosen, outboundLowering, inboundLowering, lowered}
 use Rattle.circle.proofs.Examples.Method.{three}
@@ -11,15 +11,15 @@ use Rattle.offsets.specs.Steps.{choiceOf, loweringOf, offsetAt}
 
 -- the equal plan, 8 for the outbound band, and 8 for the inbound one
 equal : listBelow 3 (movedOffset Unmoved three) ≡ 11 ∷ 0 ∷ 2 ∷ []
-unfolding listBelow lowered offset phase reference firstBelow B greatestBelow b leastBelow pairWidth u
+unfolding listBelow lowered offset phase reference firstBelow B b pairWidth u overBelow allBelow
 equal = refl
 
 outbound : listBelow 3 (movedOffset (Outbound 8) three) ≡ 11 ∷ 17 ∷ 2 ∷ []
-unfolding listBelow lowered outboundLowering chosen offset phase reference firstBelow B greatestBelow b leastBelow pairWidth u
+unfolding listBelow lowered outboundLowering chosen offset phase reference firstBelow B b pairWidth u overBelow allBelow
 outbound = refl
 
 inbound : listBelow 3 (movedOffset (Inbound 8) three) ≡ 9 ∷ 0 ∷ 19 ∷ []
-unfolding listBelow lowered inboundLowering chosen offset phase reference firstBelow B greatestBelow b leastBelow pairWidth u
+unfolding listBelow lowered inboundLowering chosen offset phase reference firstBelow B b pairWidth u overBelow allBelow
 inbound = refl
 
 -- the better phase of each signal, and its u

@@ -3,7 +3,7 @@ use Prim.Native.Nat.{ℕ, _+_, _-_, _*_}
 use mathlib.Core.Bool.{cond, Bool}
 use mathlib.Core.Path.{_≡_}
 use mathlib.Core.List.{List}
-use lib.Dec.{leb}
+use lib.Dec.{leb, ltb}
 use lib.IntN.{pos, _-ℤ_}
 use lib.ListN.{getD}
 use Rattle.circle.specs.Method.{Timed, reference}
@@ -32,11 +32,11 @@ betterOf cycle red w = choiceBy cycle red w (leb (getD w 1 0) (getD w 0 0))
 abbrev pub choiceOf : ℕ → ℕ → ℕ → ℕ → Choice
 choiceOf cycle from to red = betterOf cycle red (pairOf cycle from to red)
 
--- by how much a shift lowers an offset, from B raised and the signal's red and u; by nothing where the difference would be negative
+-- by how much a shift lowers an offset, from B raised and the signal's red and u; by nothing where the difference would be negative, and where the signal rests (02, 2026-05)
 abbrev pub loweringOf : Shift → ℕ → ℕ → ℕ → ℕ
 loweringOf Unmoved raised red u = 0
-loweringOf (Outbound w) raised red u = u + w - raised
-loweringOf (Inbound w) raised red u = w + 2 * red - u
+loweringOf (Outbound w) raised red u = cond (ltb 0 red) (u + w - raised) 0
+loweringOf (Inbound w) raised red u = cond (ltb 0 red) (w + 2 * red - u) 0
 
 -- an offset from its two sides: the phase joins the side ahead, the lowering the side that is taken away
 abbrev pub offsetAt : ℕ → ℕ → Shift → ℕ → ℕ → ℕ → ℕ → ℕ → ℕ

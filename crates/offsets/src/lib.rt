@@ -39,11 +39,14 @@ fn better_phase(cycle: u32, from: u32, to: u32, red: u32) -> Choice
     }
 }
 
-// By how much an offset is lowered, from its signal's red and u.
+// By how much an offset is lowered, from its signal's red and u. A signal that rests is never lowered.
 fn lowered_by(raised: u32, shift: Shift, red: u32, u: u32) -> u32
     requires { ⌜ (shiftWidth shift ≤ maxHalves) × (red ≤ maxCycle) × (u ≤ maxHalves) ⌝ }
     ensures { λ r. ⌜ r ≡ loweringOf shift raised red u ⌝ }
 {
+    if red == 0 {
+        return 0;
+    }
     match shift {
         Shift::Unmoved => 0,
         Shift::Outbound(width) => circle::surplus(u + width, raised),

@@ -12,7 +12,7 @@ use Rattle.circle.specs.Man.{man}
 use Rattle.circle.specs.Method.{inUnits, halves, t, t′, B}
 use Rattle.circle.specs.Bands.{width, outboundWay, inboundWay}
 use Rattle.circle.specs.Moved.{otherWidth}
-use Rattle.circle.proofs.Stretches.{Patterned, offset-turns, likes}
+use Rattle.circle.proofs.Stretches.{Patterned, likes, offset-turns, proper-way}
 use Rattle.circle.proofs.Bands.{bound-signed}
 use Rattle.street.specs.Lists.{Lists}
 use Rattle.street.specs.Checks.{planChecks}
@@ -20,7 +20,7 @@ use Rattle.street.specs.Streets.{timed}
 use Rattle.street.specs.declared.Verdict.the-variants.{Passed}
 use Rattle.promises.proofs.Streets.Passing.{fit, bounded, rising}
 use Rattle.promises.proofs.Streets.Directions.{near-rounded}
-use Rattle.promises.proofs.Bands.Widths.{proper-way, width-passes, as-wide}
+use Rattle.promises.proofs.Bands.Widths.{width-passes, as-wide}
 use Rattle.promises.proofs.Kept.{rest}
 
 module _ (l : Lists) (room : ℕ) (passed : planChecks l room ≡ Passed) where

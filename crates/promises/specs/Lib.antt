@@ -3,3 +3,4 @@ pub mod Replies
 pub mod Measures
 pub mod Rows
 pub mod Witnesses
+pub mod Resting

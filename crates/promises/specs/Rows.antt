@@ -1,4 +1,4 @@
--- Document 01's rows 1 to 13, its street A and its examples of rounding, a school street for 02, 2026-02, and volumes for 2026-03, as one table, with what is said of each row: the answer of the row's call and the
+-- Document 01's rows 1 to 13, its street A and its examples of rounding, a school street for 02, 2026-02, volumes for 2026-03 and resting signals for 2026-05, as one table, with what is said of each row: the answer of the row's call and the
 -- list that it leaves, and where a row names an exact best, that some offsets attain it and none exceed it. Each list starts as 7, 7, 7, so that an entry that is not written shows.
 use Prim.Native.Nat.{ℕ}
 use mathlib.Core.Path.{_≡_}
@@ -154,5 +154,36 @@ volume-rows =
     ∷ row streetA (Volumes 0 0 101) (refusal Volume 3) lent
     ∷ []
 
+-- a footpath crossing that rests at night, half-way between two signals
+unfoldable pub crossing : Lists
+crossing =
+    record {
+      cycle = 900;
+      reds = 240 ∷ 0 ∷ 220 ∷ [];
+      distances = 0 ∷ 225000 ∷ 450000 ∷ [];
+      outbound = 12500 ∷ 12500 ∷ [];
+      inbound = 10000 ∷ 10000 ∷ [];
+    }
+
+-- one red of a tick and a signal that rests, and two signals that both rest
+unfoldable pub oneRed : Lists
+oneRed = twoSignals 10 1 0 0 300 1000 1500
+
+unfoldable pub noRed : Lists
+noRed = twoSignals 600 0 0 0 150000 12500 10000
+
+-- signals that rest in green (02, 2026-05): two reds, with width moved both ways; one; and none, where the cycle is the only width that may be asked for
+unfoldable pub resting-rows : List TableRow
+resting-rows =
+    row crossing Equal (plan 3 (pos 1250) 1250 1250 0 220 1580) (990 ∷ 45 ∷ 0 ∷ [])
+    ∷ row crossing (Outbound 1320) (plan 3 (pos 1250) 1320 1180 0 150 1510) (990 ∷ 45 ∷ 1730 ∷ [])
+    ∷ row crossing (Inbound 1320) (plan 3 (pos 1250) 1180 1320 0 220 1580) (920 ∷ 45 ∷ 0 ∷ [])
+    ∷ row oneRed Equal (plan 1 (pos 18) 18 18 0 1 19) (0 ∷ 1 ∷ 7 ∷ [])
+    ∷ row noRed Equal (plan 1 (pos 1200) 1200 1200 0 0 0) (0 ∷ 1170 ∷ 7 ∷ [])
+    ∷ row noRed (Outbound 1200) (plan 1 (pos 1200) 1200 1200 0 0 0) (0 ∷ 1170 ∷ 7 ∷ [])
+    ∷ row noRed (Outbound 1199) (refusal Width 0) lent
+    ∷ row noRed (Platoons 30 10) (plan 1 (pos 1200) 1200 1200 0 0 0) (0 ∷ 1170 ∷ 7 ∷ [])
+    ∷ []
+
 unfoldable pub rows : List TableRow
-rows = equal-rows ++ (rounding-rows ++ (width-rows ++ (platoon-rows ++ volume-rows)))
+rows = equal-rows ++ (rounding-rows ++ (width-rows ++ (platoon-rows ++ (volume-rows ++ resting-rows))))

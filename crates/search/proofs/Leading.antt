@@ -1,6 +1,8 @@
--- The search in naturals: a row's least is its candidate's b(i) raised, and who leads after all candidates is the reference, with B. Assumes nothing.
-use Prim.Native.Nat.{ℕ, _+_, _*_, _≤_, _<_, max}
-use mathlib.Core.Path.{_≡_, sym, ap, ap₂, _∙_, subst}
+-- The search in naturals: a row's least is its candidate's b(i) raised, by which the candidate ranks where it has a red, and who leads after all candidates is the reference, with B.
+-- Assumes nothing.
+use Prim.Native.Nat.{ℕ, _+_, _*_, _≤_, _<_}
+use mathlib.Core.Path.{_≡_, refl, sym, ap, _∙_, subst}
+use mathlib.Core.Bool.{Bool, true, false, cond}
 use mathlib.Core.List.{List, []}
 use native.Mathlib.Omega.{arith}
 use native.Mathlib.Decide.{ℕ-discrete}
@@ -8,29 +10,33 @@ use lib.IntN.{pos, subℕ}
 use lib.ListN.{length, getD, set}
 use lib.Seq.{getD-set-same, getD-set-other}
 use Rattle.circle.specs.Over.{leastBelow}
-use Rattle.circle.specs.Method.{Timed, halves, B}
-use Rattle.circle.proofs.Numbers.{pos-minus, pos-sub, sub-injective, minBelow, max-more, max-ge, least-raised}
+use Rattle.circle.specs.Signed.{minℤ, orZero}
+use Rattle.circle.specs.Method.{Timed, halves, hasRed}
+use Rattle.circle.proofs.Numbers.{pos-minus, pos-sub, max-more, max-ge, least-raised, over-all}
 use Rattle.circle.proofs.Numbers.Over.{maxBelow}
-use Rattle.circle.proofs.Formulas.{Fit, larger-raised, b⁺-le, top, B-raised, reference-is}
+use Rattle.circle.proofs.Formulas.{Fit, limit, limit-le, rank, B⁺, B⁺-le, B-raised, reference-is}
 use Rattle.circle.proofs.Formulas.Raised.{b⁺}
 use Rattle.street.specs.Steps.{timedWith, Sound}
-use Rattle.search.specs.Steps.{signedOf, PairRow, wider, Reduced, Turning, Searched}
-use Rattle.search.proofs.Pairs.{Pair, pair-widths, anchor-lt}
+use Rattle.search.specs.Steps.{PairRow, wider, rankOf, settledOf, Reduced, Turning, Searched}
+use Rattle.search.proofs.Pairs.{pair-limit, anchor-lt}
 
 module _ (s : Timed) (fit : Fit s) where
   -- the least of a row of pairs is its candidate's b(i)
-  least-is : (i : ℕ) (row : List (List ℕ)) (r : ℕ) → ((j : ℕ) → j < s .signals → Pair s i j (getD row j [])) →
-      pos r ≡ leastBelow (s .signals) (λ j. pos (wider row j)) → r ≡ b⁺ s i
+  least-is : (i : ℕ) (row : List (List ℕ)) → ((j : ℕ) → j < s .signals → wider row j ≡ limit s i j) → leastBelow (s .signals) (λ j. pos (wider row j)) ≡ pos (b⁺ s i)
   unfolding b⁺
-  least-is i row r ok e =
-      sub-injective r (minBelow (4 * s .cycle) (s .signals) (larger-raised s i)) 0
-      (sym (pos-sub r)
-      ∙ e
-      ∙ least-raised 0 (4 * s .cycle) (s .signals) (λ j. pos (wider row j)) (larger-raised s i) (fit .some) (top s fit i)
-      (λ j l. ap₂ (λ (x y : ℕ). pos (max x y)) (ok j l .even) (ok j l .odd) ∙ pos-sub (larger-raised s i j)))
+  least-is i row ok =
+      over-all minℤ (pos 0) (subℕ (4 * s .cycle) 0) (s .signals) (λ j. pos (wider row j)) (fit .some)
+      ∙ least-raised 0 (4 * s .cycle) (s .signals) (λ j. true) (λ j. pos (wider row j)) (limit s i) (limit-le s fit i)
+      (λ j l. ap pos (ok j l) ∙ pos-sub (limit s i j))
+      ∙ sym (pos-sub (b⁺ s i))
 
-  pub B-is : (r : ℕ) → r ≡ maxBelow (s .signals) (b⁺ s) → signedOf s r ≡ B s
-  B-is r e = pos-minus r (halves s) ∙ ap (λ (x : ℕ). subℕ x (halves s)) e ∙ sym (B-raised s fit)
+  -- so its candidate ranks by it
+  rank-is : (i : ℕ) (row : List (List ℕ)) (r : ℕ) → ((j : ℕ) → j < s .signals → wider row j ≡ limit s i j) → pos r ≡ rankOf (s .signals) row (s .red i) → r ≡ rank s i
+  rank-is i row r ok e = ap orZero (e ∙ go (hasRed s i))
+    where
+      go : (t : Bool) → cond t (leastBelow (s .signals) (λ j. pos (wider row j))) (pos 0) ≡ pos (cond t (b⁺ s i) 0)
+      go true = least-is i row ok
+      go false = refl
 
 -- after k candidates: the first of them with the greatest number, and that number
 pub record Leading (g : ℕ → ℕ) (k signal most : ℕ) : Type 0 where
@@ -82,26 +88,27 @@ pub turning : (cycle n : ℕ) (reds x : List ℕ) (out back : ℕ → ℕ) → S
 turning cycle n reds x out back ok anchors =
     record { goes = ok .goes; on = λ k l. anchor-lt (timedWith cycle n reds out back) x k anchors l (omega (arith, ok .shortest)) }
 
--- and the least of its row is a candidate's b(i)
+-- and a candidate ranks by its row
 pub candidate-is : (cycle n : ℕ) (reds x : List ℕ) (out back : ℕ → ℕ) (i : ℕ) (row : List (List ℕ)) (r : ℕ) →
     Sound (timedWith cycle n reds out back) → Reduced (timedWith cycle n reds out back) x → i < n →
-    PairRow cycle n reds x i row → pos r ≡ leastBelow n (λ j. pos (wider row j)) → r ≡ b⁺ (timedWith cycle n reds out back) i
+    PairRow cycle n reds x i row → pos r ≡ rankOf n row (getD reds i 0) → r ≡ rank (timedWith cycle n reds out back) i
 candidate-is cycle n reds x out back i row r ok anchors l filled e =
     let s = timedWith cycle n reds out back in
     let turns : 0 < cycle = omega (arith, ok .shortest) in
-    least-is s (fit-sound s ok) i row r
+    rank-is s (fit-sound s ok) i row r
     (λ j h.
-    pair-widths s i j (getD x i 0) (getD x j 0) (getD row j []) turns (ok .goes j h) (anchors .each i l) (anchors .each j h) (filled .each j h))
+    pair-limit s i j (getD x i 0) (getD x j 0) (getD row j []) turns (ok .goes j h) (anchors .each i l) (anchors .each j h) (filled .each j h))
     e
 
 -- who leads after all candidates is the reference, with B
-pub settled : (s : Timed) → Fit s → (k signal most : ℕ) → k ≡ s .signals → Leading (b⁺ s) k signal most → Searched s (record { signal = signal; raised = most })
-settled s fit k signal most all lead =
-    let greatest : most ≡ maxBelow (s .signals) (b⁺ s) = lead .greatest ∙ ap (λ (n : ℕ). maxBelow n (b⁺ s)) all in
+pub leader-is : (s : Timed) → Fit s → (k signal most raised : ℕ) → k ≡ s .signals → Leading (rank s) k signal most → raised ≡ settledOf (s .cycle) most → Searched s (record { signal = signal; raised = raised })
+leader-is s fit k signal most raised all lead is =
+    let greatest : most ≡ maxBelow (s .signals) (rank s) = lead .greatest ∙ ap (λ (n : ℕ). maxBelow n (rank s)) all in
+    let whole : raised ≡ B⁺ s = is ∙ ap (settledOf (s .cycle)) greatest in
     record {
       found =
           reference-is s fit signal (omega (arith, lead .among)) (lead .attains ∙ greatest)
           (λ q l. omega (arith, lead .before q l, greatest));
-      width = B-is s fit most greatest;
-      small = omega (arith, b⁺-le s signal, lead .attains);
+      width = pos-minus raised (halves s) ∙ ap (λ (x : ℕ). subℕ x (halves s)) whole ∙ sym (B-raised s fit);
+      small = omega (arith, whole, B⁺-le s fit);
     }

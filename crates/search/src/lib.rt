@@ -9,7 +9,7 @@ ghost use Rattle.circle.specs.Over.{leastBelow};
 ghost use Rattle.road.specs.Limits.{maxSignals};
 ghost use Rattle.street.specs.Limits.{maxCycle};
 ghost use Rattle.street.specs.Steps.{timedBy, Sound};
-ghost use Rattle.search.specs.Steps.{pairOf, Reduced, Turning, PairRow, wider, Finds};
+ghost use Rattle.search.specs.Steps.{leavesOf, pairOf, Reduced, Turning, PairRow, wider, rankOf, settledOf, Finds};
 
 // What the search settles on: the reference's index, counted from 0, and B raised by H.
 pub struct Candidate {
@@ -38,6 +38,18 @@ pub fn reduce(
     }
 }
 
+// What a limit leaves, raised, where so much of the cycle is gone before its red: the whole cycle where it rests. The choice comes
+// last, so that the compiler takes several limits at a time.
+fn leaves(cycle: u32, red: u32, gone: u32) -> u32
+    requires { ⌜ (cycle ≤ maxCycle) × (gone < 2 * cycle) × (red < cycle) ⌝ }
+    ensures { λ r. ⌜ r ≡ leavesOf cycle red gone ⌝ }
+{
+    if red == 0 {
+        return 4 * cycle;
+    }
+    4 * cycle - gone - 2 * red
+}
+
 // A pair's two raised widths, from the two signals' anchors and the limit's red.
 pub fn pair(cycle: u32, from: u32, to: u32, red: u32) -> [u32; 2]
     requires { ⌜ (1 ≤ cycle) × (cycle ≤ maxCycle) × (from < 2 * cycle) × (to < 2 * cycle) × (red < cycle) ⌝ }
@@ -46,7 +58,7 @@ pub fn pair(cycle: u32, from: u32, to: u32, red: u32) -> [u32; 2]
     let h = 2 * cycle;
     let even = circle::back(h, from, to);
     let odd = circle::back(h, even, cycle);
-    [2 * h - even - 2 * red, 2 * h - odd - 2 * red]
+    [leaves(cycle, red, even), leaves(cycle, red, odd)]
 }
 
 // Fills a candidate's row: a pair of raised widths for each limit.
@@ -83,8 +95,30 @@ fn least(pairs: &[[u32; 2]; Street::MAX_SIGNALS], n: usize) -> u32
     low
 }
 
+// How a candidate ranks: by b(i), raised, and last where it rests.
+fn rank(pairs: &[[u32; 2]; Street::MAX_SIGNALS], n: usize, red: u32) -> u32
+    requires { ⌜ (1 ≤ n) × (n ≤ maxSignals) ⌝ }
+    ensures { λ r. ⌜ pos r ≡ rankOf n (now (pairs .entry)) red ⌝ }
+{
+    if red == 0 {
+        return 0;
+    }
+    least(pairs, n)
+}
+
+// B, raised, from the greatest rank, which is 0 where every signal rests.
+fn settled(cycle: u32, most: u32) -> u32
+    requires { ⌜ cycle ≤ maxCycle ⌝ }
+    ensures { λ r. ⌜ r ≡ settledOf cycle most ⌝ }
+{
+    if most == 0 {
+        return 4 * cycle;
+    }
+    most
+}
+
 // The widths of every ordered pair under both phases, one row per candidate, filled once; and then the search over them for the
-// first candidate with the greatest b(i).
+// first candidate with a red and the greatest b(i).
 pub fn reference(
     cycle: u32,
     n: usize,
@@ -102,15 +136,16 @@ pub fn reference(
         i += 1;
     }
     let mut signal: usize = 0;
-    let mut raised = least(&widths[0], count);
+    let mut most = rank(&widths[0], count, reds[0]);
     let mut k: usize = 1;
     while k < count {
-        let candidate = least(&widths[k], count);
-        if raised < candidate {
-            raised = candidate;
+        let candidate = rank(&widths[k], count, reds[k]);
+        if most < candidate {
+            most = candidate;
             signal = k;
         }
         k += 1;
     }
+    let raised = settled(cycle, most);
     Candidate { signal, raised }
 }

@@ -26,8 +26,8 @@ cycles : map (λ (cycle : ℕ). codeOf (cycleCheck cycle)) (9 ∷ 10 ∷ 6000 �
 unfolding cycleCheck
 cycles = refl
 
--- on a cycle of 10 ticks reds of 1 and 9 pass, 0 and 10 do not
-reds : map (λ (l : List ℕ). placeOf (redCheck 10 l)) ((1 ∷ 9 ∷ []) ∷ (0 ∷ 9 ∷ []) ∷ (9 ∷ 10 ∷ 0 ∷ []) ∷ []) ≡ 0 ∷ 1 ∷ 2 ∷ []
+-- on a cycle of 10 ticks reds of 9, 1 and 0 pass, 10 and 11 do not
+reds : map (λ (l : List ℕ). placeOf (redCheck 10 l)) ((1 ∷ 9 ∷ []) ∷ (0 ∷ 0 ∷ []) ∷ (10 ∷ 9 ∷ []) ∷ (9 ∷ 0 ∷ 11 ∷ []) ∷ []) ≡ 0 ∷ 0 ∷ 1 ∷ 3 ∷ []
 unfolding redCheck firstBelow
 reds = refl
 

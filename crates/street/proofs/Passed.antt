@@ -13,7 +13,7 @@ use Rattle.circle.specs.Over.{Found, nowhere, at, firstBelow, _or_}
 use Rattle.circle.proofs.Numbers.{first-none}
 use Rattle.road.specs.Limits.{maxSignals, maxDistance, minSpeed, maxSpeed}
 use Rattle.road.specs.Steps.{Driveable}
-use Rattle.street.specs.Limits.{minCycle, maxCycle, minRed}
+use Rattle.street.specs.Limits.{minCycle, maxCycle}
 use Rattle.street.specs.Lists.{Lists, signals}
 use Rattle.street.specs.Checks.{within, faultAt, orNext, firstFault, badRed, badDistance, badSpeed, countCheck, roomCheck, cycleCheck, redCheck, distanceCheck, speedCheck, counts, openingChecks, numberChecks, planChecks, streetChecks}
 use Rattle.street.specs.declared.Code.{Code}
@@ -103,11 +103,11 @@ speeds-within outs ins e k l =
       inbound = within-range minSpeed maxSpeed (getD ins k 0) (not-false _ back);
     }
 
-pub reds-within : (cycle : ℕ) (reds : List ℕ) → redCheck cycle reds ≡ Passed → (k : ℕ) → k < length reds → Within minRed (cycle - 1) (getD reds k 0)
+pub reds-within : (cycle : ℕ) (reds : List ℕ) → redCheck cycle reds ≡ Passed → (k : ℕ) → k < length reds → getD reds k 0 ≤ cycle - 1
 unfolding redCheck
 reds-within cycle reds e k l =
     let none = first-none (length reds) (badRed cycle reds) (no-fault Red (firstBelow (length reds) (badRed cycle reds)) e) k l in
-    within-range minRed (cycle - 1) (getD reds k 0) (not-false _ none)
+    ltb-false _ _ none
 
 -- all of it: the lists' lengths, the room and every number are within their limits
 pub record InLimits (l : Lists) (room : ℕ) : Type 0 where
@@ -115,7 +115,7 @@ pub record InLimits (l : Lists) (room : ℕ) : Type 0 where
   pub roomy : signals l ≤ room
   pub cycle : Within minCycle maxCycle (l .cycle)
   pub distances : (k : ℕ) → k < signals l → getD (l .distances) k 0 ≤ maxDistance
-  pub reds : (k : ℕ) → k < signals l → Within minRed (l .cycle - 1) (getD (l .reds) k 0)
+  pub reds : (k : ℕ) → k < signals l → getD (l .reds) k 0 ≤ l .cycle - 1
   pub outbound : Driveable (l .distances) (l .outbound)
   pub inbound : Driveable (l .distances) (l .inbound)
 

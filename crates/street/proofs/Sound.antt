@@ -27,8 +27,7 @@ module _ (l : Lists) (room : ℕ) (passed : planChecks l room ≡ Passed) where
         onward = road .onward;
         shortest = ok .cycle .low;
         longest = ok .cycle .high;
-        stops = λ k h. omega (arith, getD-padded (signals l) (timed l .red) k h, ok .reds k h .low);
-        goes = λ k h. omega (arith, getD-padded (signals l) (timed l .red) k h, ok .reds k h .high, ok .cycle .low);
+        goes = λ k h. omega (arith, getD-padded (signals l) (timed l .red) k h, ok .reds k h, ok .cycle .low);
       }
 
   pub street-agrees : Agree (timedStreet (streetOf l)) (timed l)

@@ -6,7 +6,7 @@ use lib.ListN.{length, drop, getD}
 use lib.Dec.{leb, ltb, eqb}
 use Rattle.circle.specs.Over.{Found, nowhere, at, _and_, _or_, firstBelow}
 use Rattle.road.specs.Limits.{minSignals, maxSignals, maxDistance, minSpeed, maxSpeed}
-use Rattle.street.specs.Limits.{minCycle, maxCycle, minRed}
+use Rattle.street.specs.Limits.{minCycle, maxCycle}
 use Rattle.street.specs.Lists.{Lists, signals}
 use Rattle.street.specs.declared.Code.{Code}
 use Rattle.street.specs.declared.Code.the-variants.{Count, Room, Cycle, Red, Distance, Speed}
@@ -57,9 +57,9 @@ roomCheck needed room = unless (leb needed room) Room
 unfoldable pub cycleCheck : ℕ → Verdict
 cycleCheck cycle = unless (within minCycle maxCycle cycle) Cycle
 
--- whether the red at an index is out of its range, 1 to one less than the cycle
+-- whether the red at an index is above one less than the cycle; a red of 0 is none, and the signal rests in green (02, 2026-05)
 abbrev pub badRed : ℕ → List ℕ → ℕ → Bool
-badRed cycle reds j = not (within minRed (cycle - 1) (getD reds j 0))
+badRed cycle reds j = ltb (cycle - 1) (getD reds j 0)
 
 -- 5 RED
 unfoldable pub redCheck : ℕ → List ℕ → Verdict

@@ -8,10 +8,6 @@ minCycle = 10
 abbrev pub maxCycle : ℕ
 maxCycle = 6000
 
--- a red, in ticks; it is also below the cycle
-abbrev pub minRed : ℕ
-minRed = 1
-
 -- a platoon, in halves; the least is 0
 abbrev pub maxPlatoon : ℕ
 maxPlatoon = 100000

@@ -5,7 +5,7 @@ use lib.ListN.{getD, replicate}
 use Rattle.circle.specs.Method.{Timed}
 use Rattle.road.specs.Limits.{minSignals, maxSignals}
 use Rattle.road.specs.Steps.{maxTime, padded, roadOf}
-use Rattle.street.specs.Limits.{minCycle, maxCycle, minRed}
+use Rattle.street.specs.Limits.{minCycle, maxCycle}
 use Rattle.street.specs.Lists.{Lists, signals}
 use Rattle.street.specs.Checks.{planChecks}
 use Rattle.street.specs.declared.Street.{Street}
@@ -66,5 +66,4 @@ pub record Sound (s : Timed) : Type 0 where
   pub onward : (k : ℕ) → k < s .signals → s .inbound k ≤ s .inbound (s .signals - 1)
   pub shortest : minCycle ≤ s .cycle
   pub longest : s .cycle ≤ maxCycle
-  pub stops : (k : ℕ) → k < s .signals → minRed ≤ s .red k
   pub goes : (k : ℕ) → k < s .signals → s .red k < s .cycle

@@ -73,7 +73,7 @@ pub fn red(ticks: u32, reds: &[u32]) -> Verdict
 {
     let mut i: usize = 0;
     while i < reds.len() {
-        if outside(Street::MIN_RED, ticks - 1, reds[i]) {
+        if ticks - 1 < reds[i] {
             return refused(Code::Red, (i + 1) as u32);
         }
         i += 1;

@@ -8,7 +8,7 @@ ghost use Prim.Native.Nat.{_≤_};
 ghost use lib.ListN.{length, getD};
 ghost use Rattle.road.specs.Limits.{minSignals, maxSignals, maxDistance, minSpeed, maxSpeed};
 ghost use Rattle.road.specs.Steps.{Zeros, padded};
-ghost use Rattle.street.specs.Limits.{minCycle, maxCycle, minRed, maxPlatoon, maxVolume, minHeadway, maxHeadway};
+ghost use Rattle.street.specs.Limits.{minCycle, maxCycle, maxPlatoon, maxVolume, minHeadway, maxHeadway};
 ghost use Rattle.street.specs.Lists.{typed};
 ghost use Rattle.street.specs.Codes.{codeNumber};
 ghost use Rattle.street.specs.Checks.{refuse};
@@ -107,7 +107,7 @@ fn copied(list: &[u32], all: &mut [u32; Street::MAX_SIGNALS])
 }
 
 impl Street {
-    // Document 01's limits, written once. The largest red is the cycle less 1.
+    // Document 01's limits, written once. The largest red is the cycle less 1, and the least is none (02, 2026-05).
     pub const MIN_SIGNALS: usize = 1;
 
     pub const MAX_SIGNALS: usize = Road::MAX_SIGNALS;
@@ -115,8 +115,6 @@ impl Street {
     pub const MIN_CYCLE: u32 = 10;
 
     pub const MAX_CYCLE: u32 = 6_000;
-
-    pub const MIN_RED: u32 = 1;
 
     pub const MAX_DISTANCE: u32 = 20_000_000;
 
@@ -148,13 +146,13 @@ impl Street {
         let verdict = checks::judged(cycle, reds, distances, outbound, inbound, lent);
         let mut out = [0u32; Street::MAX_SIGNALS];
         let mut back = [0u32; Street::MAX_SIGNALS];
-        let mut stops = [0u32; Street::MAX_SIGNALS];
+        let mut held = [0u32; Street::MAX_SIGNALS];
         let mut signals: usize = 0;
         let mut ticks: u32 = 0;
         let mut rounded: u32 = 0;
         if let Verdict::Passed = verdict {
             rounded = Road::fill(distances, outbound, inbound, &mut out, &mut back);
-            copied(reds, &mut stops);
+            copied(reds, &mut held);
             signals = distances.len();
             ticks = cycle;
         }
@@ -168,7 +166,7 @@ impl Street {
                     rounded,
                 },
                 cycle: ticks,
-                reds: stops,
+                reds: held,
             },
         }
     }
@@ -183,8 +181,7 @@ fn limits()
     ensures ticks { λ _. do
       least ← ⟦Street::MIN_CYCLE⟧ .entry
       most ← ⟦Street::MAX_CYCLE⟧ .entry
-      red ← ⟦Street::MIN_RED⟧ .entry
-      ⌜ (least ≡ minCycle) × (most ≡ maxCycle) × (red ≡ minRed) ⌝ }
+      ⌜ (least ≡ minCycle) × (most ≡ maxCycle) ⌝ }
     ensures roads { λ _. do
       far ← ⟦Street::MAX_DISTANCE⟧ .entry
       slow ← ⟦Street::MIN_SPEED⟧ .entry

@@ -10,10 +10,9 @@ use Rattle.circle.specs.Man.{man}
 use Rattle.circle.specs.Bands.{Way, greatestUpTo, stretch}
 use Rattle.stretches.specs.declared.Band.{Band}
 
--- at each of n signals a red that takes some of a cycle of h halves and not all of it, and an instant on the cycle at which it ends (01, 'Units and the street')
+-- at each of n signals a red that does not take all of a cycle of h halves, and may have no length, and an instant on the cycle at which it ends (01, 'Units and the street'; 02, 2026-05)
 pub record Fitting (h n : ℕ) (red : ℕ → ℕ) (ends : List ℕ) : Type 0 where
   pub turns : 0 < h
-  pub stops : (j : ℕ) → j < n → 0 < red j
   pub goes : (j : ℕ) → j < n → 2 * red j < h
   pub each : (j : ℕ) → j < n → getD ends j 0 < h
 
@@ -28,9 +27,9 @@ seenBy h n red ends =
       lag = λ j. 0;
     }
 
--- what a red that ends at an instant leaves of the cycle for a stretch from x on, all but the red and the time since it ended (01, 'Red, departure, band')
+-- what a red that ends at an instant leaves of the cycle for a stretch from x on: all but the red and the time since it ended, and all where it has no length (01, 'Red, departure, band'; 02, 2026-05)
 abbrev pub leftBy : ℕ → ℕ → ℕ → ℕ → ℕ
-leftBy h x end red = h - (2 * red + man h (pos x -ℤ pos end))
+leftBy h x end red = cond (ltb 0 red) (h - (2 * red + man h (pos x -ℤ pos end))) h
 
 -- the length of the longest stretch from an instant on (01, 'Red, departure, band')
 abbrev pub longestFrom : Way → ℕ → ℕ

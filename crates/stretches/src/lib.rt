@@ -1,5 +1,5 @@
-// The longest stretch there is, from the red ends as they are seen where a direction departs. Only red ends need be tried as starts:
-// each is held against every signal, by comparisons and differences alone.
+// The longest stretch there is, from the red ends as they are seen where a direction departs. Only red ends need be tried as starts,
+// and the instant 0 in case there is no red (02, 2026-05): each is held against every signal, by comparisons and differences alone.
 use street::Street;
 ghost use mathlib.Core.Path.{_≡_};
 ghost use Prim.Native.Nat.{_≤_, _<_};
@@ -17,11 +17,14 @@ pub struct Band {
     pub start: u32,
 }
 
-// What a red leaves of the cycle for a stretch from x on.
+// What a red leaves of the cycle for a stretch from x on. A red of no length leaves all of it.
 fn left(h: u32, x: u32, end: u32, red: u32) -> u32
     requires { ⌜ (h ≤ maxHalves) × (x < h) × (end < h) × (red ≤ maxCycle) ⌝ }
     ensures { λ r. ⌜ r ≡ leftBy h x end red ⌝ }
 {
+    if red == 0 {
+        return h;
+    }
     let gone = 2 * red + circle::back(h, x, end);
     if h < gone {
         return 0;
@@ -68,23 +71,30 @@ fn wider(best: Band, other: Band) -> Band
     best
 }
 
-// The band: the widest of the stretches from the red ends, the smallest start among equals.
+// The band: the widest of the stretches from 0 and from the red ends, the smallest start among equals. A red of no length is passed
+// over, and with no red at all the band is the whole cycle from 0.
 pub fn widest(
     h: u32,
     n: usize,
     reds: &[u32; Street::MAX_SIGNALS],
     ends: &[u32; Street::MAX_SIGNALS],
 ) -> Band
-    requires { ⌜ (h ≤ maxHalves) × (1 ≤ n) × (n ≤ maxSignals) × Fitting h n (λ j. getD (now reds) j 0) (now ends) ⌝ }
+    requires { ⌜ (h ≤ maxHalves) × (n ≤ maxSignals) × Fitting h n (λ j. getD (now reds) j 0) (now ends) ⌝ }
     ensures { λ r. ⌜ r ≡ bandOf (seenBy h n (λ j. getD (now (reds .entry)) j 0) (now (ends .entry))) ⌝ }
 {
     let count = street::bounded(n);
-    let mut best = Band { width: 0, start: 0 };
+    let from_zero = longest(h, count, reds, ends, 0);
+    let mut best = Band {
+        width: from_zero,
+        start: 0,
+    };
     let mut i: usize = 0;
     while i < count {
-        let start = ends[i];
-        let width = longest(h, count, reds, ends, start);
-        best = wider(best, Band { width, start });
+        if reds[i] > 0 {
+            let start = ends[i];
+            let width = longest(h, count, reds, ends, start);
+            best = wider(best, Band { width, start });
+        }
         i += 1;
     }
     best

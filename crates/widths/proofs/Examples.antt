@@ -1,7 +1,7 @@
 -- Requests worked out, on the streets of the method's examples: B is 5 and g is 8 at three signals. Assumes nothing.
 use mathlib.Core.Path.{_≡_, refl}
 use mathlib.Core.List.{[], _∷_, map}
-use Rattle.circle.specs.Over.{leastBelow, greatestBelow}
+use Rattle.circle.specs.Over.{allBelow, overBelow}
 use Rattle.circle.specs.Method.{u, pairWidth, b, B, equalWidth}
 use Rattle.circle.specs.Moved.{g, inRange, otherWidth, foundWidth, platoonWidth}
 use Rattle.circle.proofs.Examples.Method.{three}
@@ -19,7 +19,7 @@ use Rattle.widths.specs.declared.Shift.the-variants.{Unmoved, Outbound, 
 
 -- a width from 5 to 8 passes
 ranges : map (λ (r : Request). codeOf (requestCheck r three)) (request.Equal ∷ request.Outbound 4 ∷ request.Outbound 5 ∷ request.Inbound 8 ∷ request.Inbound 9 ∷ []) ≡ 0 ∷ 9 ∷ 0 ∷ 0 ∷ 9 ∷ []
-unfolding widthCheck inRange g B greatestBelow b leastBelow pairWidth u
+unfolding widthCheck inRange g B b pairWidth u overBelow allBelow
 ranges = refl
 
 -- a platoon of 100,000 passes, and 1 more does not; the outbound one is judged first
@@ -46,24 +46,24 @@ portion = refl
 
 -- platoons: equal ones move nothing; the longer has 2B · 4/7 = 5 5/7, rounded down; above 2B it has its length, at most g
 favoured : map (λ (r : Request). shiftOf r three) (request.Platoons 4 4 ∷ request.Platoons 4 3 ∷ request.Platoons 3 4 ∷ request.Platoons 5 7 ∷ request.Platoons 20 10 ∷ []) ≡ Unmoved ∷ Outbound 5 ∷ Inbound 5 ∷ Inbound 7 ∷ Outbound 8 ∷ []
-unfolding platoonShift platoonWidth foundWidth otherWidth g B greatestBelow b leastBelow pairWidth u
+unfolding platoonShift platoonWidth foundWidth otherWidth g B b pairWidth u overBelow allBelow
 favoured = refl
 
 -- on the school street a platoon that is alone has g, whichever way it goes, and one that is not leaves the other something
 one-sided : map (λ (r : Request). shiftOf r school) (request.Platoons 50 0 ∷ request.Platoons 0 50 ∷ request.Platoons 199 1 ∷ []) ≡ Outbound 400 ∷ Inbound 400 ∷ Outbound 199 ∷ []
-unfolding platoonShift platoonWidth foundWidth otherWidth g B greatestBelow b leastBelow pairWidth u
+unfolding platoonShift platoonWidth foundWidth otherWidth g B b pairWidth u overBelow allBelow
 one-sided = refl
 
 -- volumes are the platoons that they come to: at a cycle of 600 ticks and a headway of 30 as many halves as vehicles, so that 50 and 0 are those of the school street; at a headway of 1 a single half each way
 volumes : map (λ (r : Request). shiftOf r school) (request.Volumes 50 0 30 ∷ request.Volumes 0 50 30 ∷ request.Volumes 199 1 30 ∷ request.Volumes 1 30 1 ∷ []) ≡ Outbound 400 ∷ Inbound 400 ∷ Outbound 199 ∷ Unmoved ∷ []
-unfolding platoonShift platoonWidth foundWidth otherWidth g B greatestBelow b leastBelow pairWidth u
+unfolding platoonShift platoonWidth foundWidth otherWidth g B b pairWidth u overBelow allBelow
 volumes = refl
 
 -- what each direction then has: B, or the width, or what it leaves of 2B
 out : map (λ (k : Shift). outboundWidth k three) (Unmoved ∷ Outbound 8 ∷ Inbound 7 ∷ []) ≡ 5 ∷ 8 ∷ 3 ∷ []
-unfolding equalWidth otherWidth B greatestBelow b leastBelow pairWidth u
+unfolding equalWidth otherWidth B b pairWidth u overBelow allBelow
 out = refl
 
 back : map (λ (k : Shift). inboundWidth k three) (Unmoved ∷ Outbound 8 ∷ Inbound 7 ∷ []) ≡ 5 ∷ 2 ∷ 7 ∷ []
-unfolding equalWidth otherWidth B greatestBelow b leastBelow pairWidth u
+unfolding equalWidth otherWidth B b pairWidth u overBelow allBelow
 back = refl

@@ -37,7 +37,7 @@ all-eight (x ∷ xs) b = (b 0 (omega arith), all-eight xs (λ i h. b (suc i) (om
 -- a street whose numbers are within their limits
 module _ (l : Lists) (room : ℕ) (ok : InLimits l room) where
   reds-below : Below (10 ^ 4) (l .reds)
-  reds-below i h = omega (arith, ok .reds i h .high, ok .cycle .high)
+  reds-below i h = omega (arith, ok .reds i h, ok .cycle .high)
 
   distances-below : Below (10 ^ 8) (l .distances)
   distances-below i h = omega (arith, ok .distances i (omega (arith, ok .counts .distances)))

@@ -2,9 +2,9 @@
 use Prim.Native.Nat.{_*_}
 use mathlib.Core.Path.{_≡_, refl}
 use mathlib.Core.List.{[], _∷_}
-use Rattle.circle.specs.Over.{firstBelow, listBelow}
+use Rattle.circle.specs.Over.{firstBelow, listBelow, allBelow}
 use Rattle.circle.specs.Method.{Timed, redStart}
-use Rattle.circle.specs.Bands.{allBelow, greatestUpTo, clear, stretch, width}
+use Rattle.circle.specs.Bands.{greatestUpTo, clear, stretch, width}
 use Rattle.circle.proofs.Examples.Method.{three}
 use Rattle.street.specs.Codes.{placeOf}
 use Rattle.bands.specs.Measure.{offsetCheck, measuredOf}

@@ -30,7 +30,7 @@ widest-requires c κs =
     let made = c .before .before in
     let c0 = start made in
     let ok = c0 .pre .0 in
-    (omega (arith, ok .longest), ok .some, ok .few, fitting (street-of c0) _ ok (ends-on (street-of c0) ok Outbound (c0 .args .offsets .now) _ (made .ends .ensures)))
+    (omega (arith, ok .longest), ok .few, fitting (street-of c0) _ ok (ends-on (street-of c0) ok Outbound (c0 .args .offsets .now) _ (made .ends .ensures)))
 
 ends-requires-2 : tie.Need-ends-requires-2
 ends-requires-2 c κs = let c0 = start (c .before .before .before .before .before .before .before) in (c0 .pre .0, c0 .pre .1, c0 .pre .0 .few)
@@ -40,7 +40,7 @@ widest-requires-2 c κs =
     let made = c .before .before in
     let c0 = start2 made in
     let ok = c0 .pre .0 in
-    (omega (arith, ok .longest), ok .some, ok .few, fitting (street-of c0) _ ok (ends-on (street-of c0) ok Inbound (c0 .args .offsets .now) _ (made .ends2 .ensures)))
+    (omega (arith, ok .longest), ok .few, fitting (street-of c0) _ ok (ends-on (street-of c0) ok Inbound (c0 .args .offsets .now) _ (made .ends2 .ensures)))
 
 returns : tie.Need-returns
 returns c =

@@ -1,86 +1,26 @@
 -- No offsets give two bands that together exceed 2B, and none two stretches of signed length that do. For a departure each way, let κ(j) be the time since j's red ended outbound plus the
 -- time until it starts again inbound. Round the cycle κ(j) - κ(i) is twice u's argument for the pair, so under one of the two phases u(i,j) is H less half that difference. Where i has the
--- least κ of the signals with a red, every pair's width is then at least half of the two stretches. Assumes nothing.
-use Prim.Native.Nat.{ℕ, zero, suc, _+_, _-_, _*_, _/_, _%_, _≤_, _<_}
+-- least κ of the signals with a red, every pair's width is then at least half of the two stretches. Where no signal has a red, B is the cycle, and no stretch is longer. Assumes nothing.
+use Prim.Native.Nat.{ℕ, _+_, _-_, _*_, _/_, _%_, _≤_, _<_}
 use mathlib.Core.Path.{_≡_, ap, ap₂, _∙_}
 use mathlib.Core.Bool.{true}
 use mathlib.Core.Logic.{_⊎_, inl, inr, ⊎-elim}
 use native.Mathlib.Omega.{arith}
-use native.Mathlib.Decide.{decLt, decLe}
-use native.Mathlib.Nat.{eq-or-lt-of-le, le-of-suc-le-suc}
+use native.Mathlib.Decide.{decLt}
 use lib.IntN.{pos, _+ℤ_}
 use borrow.Author.Tests.{le-leb}
 use Rattle.circle.specs.Signed.{leℤ}
-use Rattle.circle.specs.Method.{Timed, halves, B}
+use Rattle.circle.specs.Method.{Timed, halves, B, reference}
 use Rattle.circle.specs.Bands.{outboundWay, inboundWay}
 use Rattle.circle.proofs.Numbers.Signed.{sub-eq, pos-sub, add-sub, le-sub}
 use Rattle.circle.proofs.Numbers.Man.{Turns}
-use Rattle.circle.proofs.Numbers.Over.{min-from, max-ge}
+use Rattle.circle.proofs.Numbers.Over.{max-ge}
+use Rattle.circle.proofs.Numbers.Least.{Least, least-or-none}
 use Rattle.circle.proofs.Formulas.Method.{u-is}
-use Rattle.circle.proofs.Formulas.Raised.{Fit, raised, larger-raised, top, b⁺, B⁺, B-raised}
+use Rattle.circle.proofs.Formulas.Raised.{Fit, raised, larger-raised, top, b⁺-from, b⁺-some, rank, rank-red, B⁺, B-ranked, B-raised}
+use Rattle.circle.proofs.Formulas.Reference.{reference-first, reference-rests}
 use Rattle.circle.proofs.Stretches.Arcs.{since, Passes, Spans, spans}
-use Rattle.circle.proofs.Stretches.Since.{Stops, Rising, since-turns}
-
--- among the indices below n where g is above 0, one with the least f
-pub record Least (n : ℕ) (g f : ℕ → ℕ) : Type 0 where
-  pub at : ℕ
-  pub below : at < n
-  pub counts : 0 < g at
-  pub least : (j : ℕ) → j < n → 0 < g j → f at ≤ f j
-
--- how it grows by one index: the new one takes over, or the old one stays
-module _ (n : ℕ) (g f : ℕ → ℕ) where
-  over : 0 < g n → ((j : ℕ) → j < n → 0 < g j → f n ≤ f j) → Least (suc n) g f
-  over counts before =
-      record {
-        at = n;
-        below = omega arith;
-        counts = counts;
-        least =
-            λ j l c.
-            ⊎-elim
-            (λ e. let same : f j ≡ f n = ap f e in omega arith)
-            (λ m. before j m c)
-            (eq-or-lt-of-le (le-of-suc-le-suc l));
-      }
-
-  stay : (m : Least n g f) → (0 < g n → f (m .at) ≤ f n) → Least (suc n) g f
-  stay m last =
-      record {
-        at = m .at;
-        below = omega (arith, m .below);
-        counts = m .counts;
-        least =
-            λ j l c.
-            ⊎-elim
-            (λ e.
-            let same : f j ≡ f n = ap f e in
-            let here : g j ≡ g n = ap g e in
-            let k : f (m .at) ≤ f n = last (omega arith) in
-            omega arith)
-            (λ h. m .least j h c)
-            (eq-or-lt-of-le (le-of-suc-le-suc l));
-      }
-
-  grow : Dec (0 < g n) → Least n g f ⊎ ((j : ℕ) → j < n → 0 < g j → ⊥) → Least (suc n) g f ⊎ ((j : ℕ) → j < suc n → 0 < g j → ⊥)
-  grow (yes c) (inr none) = inl (over c (λ j l d. absurd (none j l d)))
-  grow (no c) (inl m) = inl (stay m (λ d. absurd (c d)))
-  grow (no c) (inr none) =
-      inr
-      (λ j l d.
-      ⊎-elim (λ e. let here : g j ≡ g n = ap g e in omega (arith, c)) (λ h. none j h d) (eq-or-lt-of-le (le-of-suc-le-suc l)))
-  grow (yes c) (inl m) = inl (pick (decLe (f n) (f (m .at))))
-    where
-      pick : Dec (f n ≤ f (m .at)) → Least (suc n) g f
-      pick (yes l) = over c (λ j h d. let k = m .least j h d in omega arith)
-      pick (no l) = stay m (λ d. omega arith)
-
-least-or-none : (n : ℕ) (g f : ℕ → ℕ) → Least n g f ⊎ ((j : ℕ) → j < n → 0 < g j → ⊥)
-least-or-none zero g f = inr (λ j l c. omega arith)
-least-or-none (suc n) g f = grow n g f (decLt 0 (g n)) (least-or-none n g f)
-
-pub least-where : (n : ℕ) (g f : ℕ → ℕ) (k : ℕ) → k < n → 0 < g k → Least n g f
-least-where n g f k l c = ⊎-elim (λ m. m) (λ none. absurd (none k l c)) (least-or-none n g f)
+use Rattle.circle.proofs.Stretches.Since.{Rising, since-turns}
 
 -- the difference of the two departures at one signal: the offset and the red cancel
 both : (H a b σ x y A Q Qn : ℕ) → Q ≤ Qn → Turns H (a + σ) (x + 2 * A) → Turns H (b + σ) (y + 2 * (Qn - Q)) → Turns H (a + (y + 2 * Qn)) (b + (x + 2 * (A + Q)))
@@ -146,27 +86,27 @@ module _ (s : Timed) (fit : Fit s) (rising : Rising s) (f : ℕ → ℕ) (x y v 
           (phased (s .cycle) (k .0) (s .red j + s .outbound i + s .inbound i) (s .red i + s .outbound j + s .inbound j)
           (record { p = k .2 .p; q = k .2 .q; eq = omega (arith, k .2 .eq) }))
 
-  -- some signal with a red has every pair that it forms with a signal with a red at least half as wide as the two stretches
-  pub widest : (k : ℕ) → k < s .signals → 0 < s .red k → (i : ℕ) × (i < s .signals) × (0 < s .red i) × ((j : ℕ) → j < s .signals → 0 < s .red j → v + v′ + 2 * halves s ≤ 2 * larger-raised s i j + (lack + lack′))
-  widest k l r =
-      let i = least-where (s .signals) (s .red) (κ s f x y lack′) k l r in
-      (i .at, i .below, i .counts, λ j lj rj. reaches (i .at) j (i .below) lj (i .counts) rj (i .least j lj rj))
+  -- the signal with the least κ of those with a red has every pair that it forms with one of them at least half as wide as the two stretches
+  reached : Least (s .signals) (s .red) (κ s f x y lack′) → v + v′ + 2 * halves s ≤ 2 * B⁺ s + (lack + lack′)
+  reached i =
+      let c = i .at in
+      let half = (v + v′ + 2 * halves s - (lack + lack′) + 1) / 2 in
+      let each : (j : ℕ) → j < s .signals → 0 < s .red j → half ≤ larger-raised s c j = λ j l r. omega (arith, reaches c j (i .below) l (i .counts) r (i .least j l r)) in
+      let least = b⁺-from s c half (omega (arith, each c (i .below) (i .counts), top s fit c c (i .below))) each in
+      let ranks = rank-red s c (i .counts) in
+      let most = max-ge (s .signals) (rank s) c (i .below) in
+      omega (arith, B-ranked s fit (omega (arith, b⁺-some s fit c)))
 
 -- any two stretches, one each way and under any offsets, v and v′ long less what they lack: together at most 2B, raised by two cycles
 abbrev pub Bounded : Timed → Type 0
 Bounded s =
     (f : ℕ → ℕ) (x y v v′ lack lack′ : ℕ) → Spans (outboundWay s f) x v lack → Spans (inboundWay s f) y v′ lack′ → v + v′ + 2 * halves s ≤ 2 * B⁺ s + (lack + lack′)
 
--- they are so where each signal, every one of which B counts, has a red
-pub bound : (s : Timed) → Fit s → Stops s → Rising s → Bounded s
-unfolding b⁺
-bound s fit stops rising f x y v v′ lack lack′ out back =
-    let first : 0 < s .signals = fit .some in
-    let (i, l, r, each) = widest s fit rising f x y v v′ lack lack′ out back 0 first (stops 0 first) in
-    let most = max-ge (s .signals) (b⁺ s) i l in
-    let half = (v + v′ + 2 * halves s - (lack + lack′) + 1) / 2 in
-    let least = min-from (4 * s .cycle) (s .signals) (larger-raised s i) half (omega (arith, each i l r, top s fit i i l)) (λ j h. omega (arith, each j h (stops j h))) in
-    omega arith
+pub bound : (s : Timed) → Fit s → Rising s → Bounded s
+bound s fit rising f x y v v′ lack lack′ out back =
+    ⊎-elim (reached s fit rising f x y v v′ lack lack′ out back)
+    (λ none. omega (arith, reference-rests s fit (none (reference s) (reference-first s fit .below)) .0, out .most, back .most))
+    (least-or-none (s .signals) (s .red) (κ s f x y lack′))
 
 pub bound-signed : (s : Timed) → Fit s → Bounded s → (f : ℕ → ℕ) (x y v v′ : ℕ) → Passes (outboundWay s f) x v → Passes (inboundWay s f) y v′ → leℤ (pos (v + v′)) (B s +ℤ B s) ≡ true
 bound-signed s fit two f x y v v′ out back =

@@ -1,7 +1,7 @@
 -- Named bands. A band is named by an instant at the reference: outbound by its start there, as the red ends, inbound by its end, as the red starts. Take any offsets that are the
 -- equal plan's, each lowered by its own amount, by nothing too. Then the time since signal j's red ended is u(j)'s, more by j's lowering and less by the reference's. So both bands
--- pass where two inequalities hold at each signal, and they are the same two each way once the two lowerings change places. Where a band is not open the same two inequalities hold of a
--- stretch of negative length. Assumes nothing.
+-- pass where two inequalities hold at each signal with a red, and they are the same two each way once the two lowerings change places. Where a band is not open the same two inequalities
+-- hold of a stretch of negative length. Assumes nothing.
 use Prim.Native.Nat.{ℕ, _+_, _-_, _*_, _≤_, _<_}
 use mathlib.Core.Path.{_≡_}
 use native.Mathlib.Omega.{arith}
@@ -70,10 +70,11 @@ module _ (s : Timed) (fit : Fit s) (rising : Rising s) (f δ : ℕ → ℕ) (low
 
   -- the departure that comes by the reference as its red ends
   out-spans-from :
-      (x v lack : ℕ) → Meets (outboundWay s f) (reference s) (redEnd s (reference s) (f (reference s))) 0 x → ((j : ℕ) → j < s .signals → Room s v lack j (δ j) (δ (reference s))) →
-      Spans (outboundWay s f) x v lack
-  out-spans-from x v lack from room =
+      (x v lack : ℕ) → v ≤ halves s + lack → Meets (outboundWay s f) (reference s) (redEnd s (reference s) (f (reference s))) 0 x →
+      ((j : ℕ) → j < s .signals → 0 < s .red j → Room s v lack j (δ j) (δ (reference s))) → Spans (outboundWay s f) x v lack
+  out-spans-from x v lack most from room =
       record {
+        most = most;
         each =
             λ j l r.
             let c = reference s in
@@ -81,18 +82,19 @@ module _ (s : Timed) (fit : Fit s) (rising : Rising s) (f δ : ℕ → ℕ) (low
             let σ = start j l in
             let o = own in
             let E = end-turns s c (f c) around in
-            let k = room j l in
+            let k = room j l (omega arith) in
             let g = halves s + δ j - (chosen s j + δ c) in
-            let most = since-le (outboundWay s f) x j g around (record { p = U .p + σ .p + o .q + E .q + from .q; q = U .q + σ .q + o .p + E .p + from .p; eq = omega (arith, U .eq, σ .eq, o .eq, E .eq, from .eq, chosen-range s fit j, k .after) }) in
+            let past = since-le (outboundWay s f) x j g around (record { p = U .p + σ .p + o .q + E .q + from .q; q = U .q + σ .q + o .p + E .p + from .p; eq = omega (arith, U .eq, σ .eq, o .eq, E .eq, from .eq, chosen-range s fit j, k .after) }) in
             omega (arith, k .before, k .after);
       }
 
   -- and the one that comes by v before its red starts, or later by what is lacking
   back-spans-to :
-      (y v lack : ℕ) → Meets (inboundWay s f) (reference s) (redStart s (reference s) (f (reference s)) + lack) v y → ((j : ℕ) → j < s .signals → Room s v lack j (δ (reference s)) (δ j)) →
-      Spans (inboundWay s f) y v lack
-  back-spans-to y v lack to room =
+      (y v lack : ℕ) → v ≤ halves s + lack → Meets (inboundWay s f) (reference s) (redStart s (reference s) (f (reference s)) + lack) v y →
+      ((j : ℕ) → j < s .signals → 0 < s .red j → Room s v lack j (δ (reference s)) (δ j)) → Spans (inboundWay s f) y v lack
+  back-spans-to y v lack most to room =
       record {
+        most = most;
         each =
             λ j l r.
             let c = reference s in
@@ -101,25 +103,26 @@ module _ (s : Timed) (fit : Fit s) (rising : Rising s) (f δ : ℕ → ℕ) (low
             let o = own in
             let E = start-turns s c (f c) around in
             let (t, two) = twice (phase s c j) (s .cycle) (offset-patterned s c around .either j l) in
-            let k = room j l in
+            let k = room j l (omega arith) in
             let g = chosen s j + δ j + lack - (v + 2 * s .red j + δ c) in
-            let most = since-le (inboundWay s f) y j g around (record { p = U .q + σ .p + o .q + E .q + to .q; q = 1 + t + U .p + σ .q + o .p + E .p + to .p; eq = omega (arith, U .eq, σ .eq, o .eq, E .eq, to .eq, chosen-range s fit j, rising j l, rising c (reference-first s fit .below), k .before) }) in
+            let past = since-le (inboundWay s f) y j g around (record { p = U .q + σ .p + o .q + E .q + to .q; q = 1 + t + U .p + σ .q + o .p + E .p + to .p; eq = omega (arith, U .eq, σ .eq, o .eq, E .eq, to .eq, chosen-range s fit j, rising j l, rising c (reference-first s fit .below), k .before) }) in
             omega (arith, k .before, k .after);
       }
 
-  -- the bands are there where each signal has room, and none is lacking of a band that is open
+  -- the bands are there where each is at most the cycle and each signal with a red has room, and none is lacking of a band that is open
   module _
-      (v v′ lack lack′ : ℕ) (none : 1 ≤ v → lack ≡ 0) (none′ : 1 ≤ v′ → lack′ ≡ 0) (all : v + v′ + 2 * halves s ≡ 2 * B⁺ s + (lack + lack′))
-      (room : (j : ℕ) → j < s .signals → Room s v lack j (δ j) (δ (reference s))) (room′ : (j : ℕ) → j < s .signals → Room s v′ lack′ j (δ (reference s)) (δ j))
+      (v v′ lack lack′ : ℕ) (most : v ≤ halves s) (most′ : v′ ≤ halves s) (none : 1 ≤ v → lack ≡ 0) (none′ : 1 ≤ v′ → lack′ ≡ 0)
+      (all : v + v′ + 2 * halves s ≡ 2 * B⁺ s + (lack + lack′))
+      (room : (j : ℕ) → j < s .signals → 0 < s .red j → Room s v lack j (δ j) (δ (reference s)))
+      (room′ : (j : ℕ) → j < s .signals → 0 < s .red j → Room s v′ lack′ j (δ (reference s)) (δ j))
     where
       first : Named (outboundWay s f) (reference s) (redEnd s (reference s) (f (reference s))) 0 v
       first =
           record {
             passes =
                 λ x from some.
-                let c = room (reference s) (reference-first s fit .below) in
                 let full = none some in
-                record { most = omega (arith, c .before, c .after); each = λ j l r. omega (arith, out-spans-from x v lack from room .each j l r) };
+                record { most = most; each = λ j l r. omega (arith, out-spans-from x v lack (omega arith) from room .each j l r) };
           }
 
       last : Named (inboundWay s f) (reference s) (redStart s (reference s) (f (reference s))) v′ v′
@@ -127,10 +130,9 @@ module _ (s : Timed) (fit : Fit s) (rising : Rising s) (f δ : ℕ → ℕ) (low
           record {
             passes =
                 λ y to some.
-                let c = room′ (reference s) (reference-first s fit .below) in
                 let full = none′ some in
                 let there : Meets (inboundWay s f) (reference s) (redStart s (reference s) (f (reference s)) + lack′) v′ y = record { p = to .p; q = to .q; eq = omega (arith, to .eq) } in
-                record { most = omega (arith, c .before, c .after); each = λ j l r. omega (arith, back-spans-to y v′ lack′ there room′ .each j l r) };
+                record { most = most′; each = λ j l r. omega (arith, back-spans-to y v′ lack′ (omega arith) there room′ .each j l r) };
           }
 
       pub bands : Bands s f v v′
@@ -145,7 +147,7 @@ module _ (s : Timed) (fit : Fit s) (rising : Rising s) (f δ : ℕ → ℕ) (low
             y = y;
             out = first;
             back = last;
-            out-spans = out-spans-from x v lack from room;
-            back-spans = back-spans-to y v′ lack′ to room′;
+            out-spans = out-spans-from x v lack (omega arith) from room;
+            back-spans = back-spans-to y v′ lack′ (omega arith) to room′;
             all = all;
           }

@@ -2,20 +2,23 @@
 -- settled by uniqueness: N times a number in range is in range, and N times an equation of turns is one. Assumes nothing.
 use Prim.Native.Nat.{ℕ, zero, suc, _+_, _-_, _*_, _≤_, _<_, min, max}
 use mathlib.Core.Path.{_≡_, refl, sym, ap, ap₂, subst, _∙_}
+use mathlib.Core.Bool.{Bool, true, false, cond}
 use native.Mathlib.Omega.{arith}
 use native.Mathlib.Decide.{decLe}
-use native.Mathlib.Nat.{mul-le-mul-left, mul-lt-mul-of-pos-left, mul-sub}
+use native.Mathlib.Nat.{mul-le-mul-left, mul-lt-mul-of-pos-left, mul-sub, mul-zero}
 use lib.IntN.{pos, _-ℤ_}
+use lib.Dec.{ltb}
+use borrow.Author.Tests.{lt-ltb}
 use Rattle.circle.specs.Man.{man}
-use Rattle.circle.specs.Method.{Timed, halves, u, b, redStart}
+use Rattle.circle.specs.Method.{Timed, halves, hasRed, u, redStart}
 use Rattle.circle.specs.Bands.{Way, outboundWay, inboundWay}
 use Rattle.circle.specs.Moved.{otherWidth}
 use Rattle.circle.proofs.Numbers.Man.{Turns, man-lt, man-is, man-turns}
 use Rattle.circle.proofs.Numbers.Over.{minBelow, maxBelow}
 use Rattle.circle.proofs.Formulas.Method.{u-is, u-range}
-use Rattle.circle.proofs.Formulas.Raised.{Fit, raised, larger-raised, b⁺, low, B⁺}
+use Rattle.circle.proofs.Formulas.Raised.{Fit, raised, larger-raised, limit, b⁺, rank, low, B⁺}
 use Rattle.circle.proofs.Stretches.Arcs.{since, Passes, Spans, spans}
-use Rattle.circle.proofs.Stretches.Since.{along, Stops, Rising, since-turns, since-le}
+use Rattle.circle.proofs.Stretches.Since.{along, Rising, since-turns, since-le}
 use Rattle.circle.proofs.Formulas.Reference.{u-turns}
 use Rattle.circle.proofs.Formulas.Moving.{other-width}
 pub use Rattle.circle.specs.Method.{inUnits as scaled}
@@ -60,6 +63,22 @@ max-below-scaled N (suc n) f g e =
     ap₂ max (max-below-scaled N n f g (λ k l. e k (omega arith))) (e n (omega arith))
     ∙ max-scaled N (maxBelow n g) (g n)
 
+-- a choice between two numbers, by one test
+cond-scaled : (N : ℕ) (p q : Bool) (a b c d : ℕ) → p ≡ q → a ≡ N * c → b ≡ N * d → cond p a b ≡ N * cond q c d
+cond-scaled N p q a b c d same first second = ap (λ t. cond t a b) same ∙ go q
+  where
+    go : (t : Bool) → cond t a b ≡ N * cond t c d
+    go true = first
+    go false = second
+
+-- N times a number is one where the number is
+some-scaled : (N : ℕ) → 0 < N → (k : ℕ) → ltb 0 (N * k) ≡ ltb 0 k
+some-scaled N fine zero = ap (ltb 0) (mul-zero N)
+some-scaled N fine (suc k) = lt-ltb 0 (N * suc k) (omega (arith, mul-le-mul-left N (le-one k))) ∙ sym (lt-ltb 0 (suc k) (omega arith))
+  where
+    le-one : (k : ℕ) → 1 ≤ suc k
+    le-one k = omega arith
+
 module _ (N : ℕ) (s : Timed) (fine : 0 < N) (fit : Fit s) where
   pub u-scaled : (i j e : ℕ) → u (scaled N s) i j (N * e) ≡ N * u s i j e
   u-scaled i j e =
@@ -83,8 +102,8 @@ module _ (N : ℕ) (s : Timed) (fine : 0 < N) (fit : Fit s) where
         goes = λ k l. mul-lt-mul-of-pos-left (fit .goes k l) fine;
       }
 
-  pub stops-scaled : Stops s → Stops (scaled N s)
-  stops-scaled stops j l = omega (arith, mul-lt-mul-of-pos-left (stops j l) fine)
+  red-scaled : (j : ℕ) → hasRed (scaled N s) j ≡ hasRed s j
+  red-scaled j = some-scaled N fine (s .red j)
 
   pub rising-scaled : Rising s → Rising (scaled N s)
   rising-scaled rising j l = mul-le-mul-left N (rising j l)
@@ -101,16 +120,26 @@ module _ (N : ℕ) (s : Timed) (fine : 0 < N) (fit : Fit s) where
       ap₂ max (ap (raised (scaled N s) i j) none ∙ raised-scaled i j 0 l) (raised-scaled i j (s .cycle) l)
       ∙ max-scaled N (raised s i j 0) (raised s i j (s .cycle))
 
+  turn : 4 * (N * s .cycle) ≡ N * (4 * s .cycle)
+  turn = omega arith
+
   -- b(i) and B, raised by the cycle in each unit
   b⁺-scaled : (i : ℕ) → b⁺ (scaled N s) i ≡ N * b⁺ s i
   unfolding b⁺
   b⁺-scaled i =
-      let top : 4 * (N * s .cycle) ≡ N * (4 * s .cycle) = omega arith in
-      ap (λ (x : ℕ). minBelow x (s .signals) (larger-raised (scaled N s) i)) top
-      ∙ min-below-scaled N (4 * s .cycle) (s .signals) (larger-raised (scaled N s) i) (larger-raised s i) (larger-scaled i)
+      ap (λ (x : ℕ). minBelow x (s .signals) (limit (scaled N s) i)) turn
+      ∙ min-below-scaled N (4 * s .cycle) (s .signals) (limit (scaled N s) i) (limit s i)
+      (λ j l. cond-scaled N (hasRed (scaled N s) j) (hasRed s j) (larger-raised (scaled N s) i j) (4 * (N * s .cycle)) (larger-raised s i j) (4 * s .cycle) (red-scaled j) (larger-scaled i j l) turn)
 
-  pub greatest-scaled : maxBelow (s .signals) (b⁺ (scaled N s)) ≡ N * maxBelow (s .signals) (b⁺ s)
-  greatest-scaled = max-below-scaled N (s .signals) (b⁺ (scaled N s)) (b⁺ s) (λ k l. b⁺-scaled k)
+  rank-scaled : (i : ℕ) → rank (scaled N s) i ≡ N * rank s i
+  rank-scaled i = cond-scaled N (hasRed (scaled N s) i) (hasRed s i) (b⁺ (scaled N s) i) 0 (b⁺ s i) 0 (red-scaled i) (b⁺-scaled i) (omega arith)
+
+  pub B⁺-scaled : B⁺ (scaled N s) ≡ N * B⁺ s
+  B⁺-scaled =
+      let most = maxBelow (s .signals) (rank s) in
+      let is = max-below-scaled N (s .signals) (rank (scaled N s)) (rank s) (λ k l. rank-scaled k) in
+      cond-scaled N (ltb 0 (maxBelow (s .signals) (rank (scaled N s)))) (ltb 0 most) (maxBelow (s .signals) (rank (scaled N s))) (4 * (N * s .cycle)) most (4 * s .cycle)
+      (ap (ltb 0) is ∙ some-scaled N fine most) is turn
 
   -- what the other direction is left
   pub other-scaled : (w : ℕ) → otherWidth (scaled N s) (N * w) ≡ N * otherWidth s w
@@ -118,7 +147,7 @@ module _ (N : ℕ) (s : Timed) (fine : 0 < N) (fit : Fit s) where
       let all : 2 * (2 * (N * s .cycle)) + N * w ≡ N * (2 * halves s + w) = omega arith in
       let twice : 2 * (N * B⁺ s) ≡ N * (2 * B⁺ s) = omega arith in
       other-width (scaled N s) fit-scaled (N * w)
-      ∙ ap₂ _-_ (ap (λ (x : ℕ). 2 * x) greatest-scaled ∙ twice) all
+      ∙ ap₂ _-_ (ap (λ (x : ℕ). 2 * x) B⁺-scaled ∙ twice) all
       ∙ sym (mul-sub N (2 * B⁺ s) (2 * halves s + w))
       ∙ ap (λ (x : ℕ). N * x) (sym (other-width s fit w))
 
@@ -139,6 +168,7 @@ module _ (N : ℕ) (w z : Way) (same : Finer N w z) (turns : 0 < z .around) wher
   pub finer-spans : (x v lack : ℕ) → Spans w x v lack → Spans z (N * x) (N * v) (N * lack)
   finer-spans x v lack stretch =
       record {
+        most = omega (arith, same .around, mul-le-mul-left N (stretch .most));
         each =
             λ j h r.
             let l : j < w .signals = omega (arith, same .signals) in

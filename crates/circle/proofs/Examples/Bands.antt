@@ -3,9 +3,9 @@ use mathlib.Core.Path.{_≡_, refl}
 use mathlib.Core.Bool.{true, false}
 use mathlib.Core.List.{[], _∷_}
 use lib.ListN.{getD}
-use Rattle.circle.specs.Over.{firstBelow, sumBelow, countBelow, listBelow}
+use Rattle.circle.specs.Over.{firstBelow, sumBelow, countBelow, allBelow, listBelow}
 use Rattle.circle.specs.Method.{u, pairWidth, phase, offset, redEnd, redStart}
-use Rattle.circle.specs.Bands.{Way, allBelow, greatestUpTo, clear, stretch, width, bandStart, outboundWay, inboundWay}
+use Rattle.circle.specs.Bands.{Way, greatestUpTo, clear, stretch, width, bandStart, outboundWay, inboundWay}
 use Rattle.circle.proofs.Examples.Method.{three}
 
 -- two signals on a cycle of 10: one is red from 1 to 3, the other from 7 to 9. A car is at the other 2 after its departure, so that departures from 5 to 7 meet its red

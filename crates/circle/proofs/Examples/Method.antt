@@ -4,7 +4,7 @@ use mathlib.Core.Path.{_≡_, refl}
 use mathlib.Core.List.{[], _∷_}
 use lib.IntN.{pos, negsuc}
 use lib.ListN.{getD}
-use Rattle.circle.specs.Over.{firstBelow, leastBelow, greatestBelow, listBelow}
+use Rattle.circle.specs.Over.{firstBelow, allBelow, overBelow, listBelow}
 use Rattle.circle.specs.Method.{Timed, t, t′, u, pairWidth, b, B, reference, phase, offset, equalWidth, inUnits}
 
 -- three signals on a cycle of 10 ticks, 20 halves
@@ -52,16 +52,16 @@ unfolding listBelow pairWidth u
 pairs = refl
 
 bs : listBelow 3 (b three) ≡ pos 1 ∷ pos 5 ∷ pos 3 ∷ []
-unfolding listBelow b leastBelow pairWidth u
+unfolding listBelow b pairWidth u overBelow allBelow
 bs = refl
 
 -- B is the greatest of them, and the second signal has it; of two signals with b = -1 and b = -3 both directions report 0
 greatest : B three ∷ B (two 2 2) ∷ [] ≡ pos 5 ∷ negsuc 0 ∷ []
-unfolding B greatestBelow b leastBelow pairWidth u
+unfolding B b pairWidth u overBelow allBelow
 greatest = refl
 
 reported : reference three ∷ equalWidth three ∷ reference (two 2 2) ∷ equalWidth (two 2 2) ∷ [] ≡ 1 ∷ 5 ∷ 0 ∷ 0 ∷ []
-unfolding reference equalWidth firstBelow B greatestBelow b leastBelow pairWidth u
+unfolding reference equalWidth firstBelow B b pairWidth u overBelow allBelow
 reported = refl
 
 phases : listBelow 3 (phase three 1) ≡ 10 ∷ 0 ∷ 0 ∷ []
@@ -74,5 +74,5 @@ offsets = refl
 
 -- counted in thirds everything is three times as long
 thirds : listBelow 3 (b (inUnits 3 three)) ≡ pos 3 ∷ pos 15 ∷ pos 9 ∷ []
-unfolding listBelow b leastBelow pairWidth u
+unfolding listBelow b pairWidth u overBelow allBelow
 thirds = refl

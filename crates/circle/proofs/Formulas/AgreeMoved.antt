@@ -1,22 +1,22 @@
 -- Moved plans go by the signals below the count alone: two streets that agree there have one g, one range of requests, one u for each signal, one lowering and lowered
 -- offset, and one platoon rule. Each follows from the agreement of what it is made of. Assumes nothing.
 use Prim.Native.Nat.{ℕ, _*_, _/_, _<_, min}
-use mathlib.Core.Path.{_≡_, ap, ap₂, _∙_}
-use mathlib.Core.Bool.{cond, false}
+use mathlib.Core.Path.{_≡_, refl, ap, ap₂, _∙_}
+use mathlib.Core.Bool.{cond, true, false}
 use lib.IntN.{pos, _+ℤ_, _-ℤ_}
 use lib.Dec.{eqb}
-use Rattle.circle.specs.Signed.{leℤ, maxℤ, orZero}
+use Rattle.circle.specs.Signed.{leℤ, minℤ, maxℤ, orZero}
 use Rattle.circle.specs.Over.{leastBelow}
 use Rattle.circle.specs.Method.{Timed, halves, u, reference, phase, offset}
 use Rattle.circle.specs.Moved.{g, inRange, chosen, outboundLowering, inboundLowering, lowered, otherWidth, foundWidth, platoonWidth}
-use Rattle.circle.proofs.Numbers.Over.{least-ext}
+use Rattle.circle.proofs.Numbers.Where.{over-ext}
 use Rattle.circle.proofs.Formulas.Method.{Agree, B-agree, reference-agree, reference-lt, offset-agree, u-agree, phase-agree}
 
 module _ (s z : Timed) (agree : Agree s z) where
   pub g-agree : g s ≡ g z
   unfolding g
   g-agree =
-      least-ext (s .signals) (λ j. pos (halves s) -ℤ pos (2 * s .red j)) (λ j. pos (halves z) -ℤ pos (2 * z .red j))
+      over-ext minℤ (pos 0) (s .signals) (λ j. true) (λ j. true) (λ j. pos (halves s) -ℤ pos (2 * s .red j)) (λ j. pos (halves z) -ℤ pos (2 * z .red j)) (λ j l. refl)
       (λ j l. ap₂ (λ (c r : ℕ). pos (2 * c) -ℤ pos (2 * r)) (agree .cycle) (agree .red j l))
       ∙ ap (λ (n : ℕ). leastBelow n (λ j. pos (halves z) -ℤ pos (2 * z .red j))) (agree .signals)
 
@@ -51,7 +51,7 @@ module _ (s z : Timed) (agree : Agree s z) where
 
     pub outboundLowering-agree : (w j : ℕ) → j < s .signals → outboundLowering s w j ≡ outboundLowering z w j
     unfolding outboundLowering
-    outboundLowering-agree w j l = cc (agree .cycle, chosen-agree j l, B-agree s z agree)
+    outboundLowering-agree w j l = cc (agree .cycle, agree .red j l, chosen-agree j l, B-agree s z agree)
 
     pub inboundLowering-agree : (w j : ℕ) → j < s .signals → inboundLowering s w j ≡ inboundLowering z w j
     unfolding inboundLowering

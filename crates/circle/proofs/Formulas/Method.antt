@@ -6,13 +6,15 @@ use mathlib.Core.Path.{_≡_, ap, ap₂, _∙_}
 use mathlib.Core.Bool.{cond}
 use native.Mathlib.Omega.{arith}
 use lib.IntN.{pos, subℕ, _+ℤ_, _-ℤ_}
-use Rattle.circle.specs.Signed.{leℤ, eqℤ, maxℤ, orZero}
-use Rattle.circle.specs.Over.{firstBelow, leastBelow, greatestBelow, indexOf}
+use lib.Dec.{ltb}
+use Rattle.circle.specs.Signed.{leℤ, eqℤ, minℤ, maxℤ, orZero}
+use Rattle.circle.specs.Over.{_and_, firstBelow, leastWhere, greatestWhere, indexOf}
 use Rattle.circle.specs.Man.{man}
-use Rattle.circle.specs.Method.{Timed, halves, t, t′, u, pairWidth, b, B, reference, phase, offset, equalWidth, redEnd, redStart}
+use Rattle.circle.specs.Method.{Timed, halves, t, t′, u, pairWidth, hasRed, b, B, reference, phase, offset, equalWidth, redEnd, redStart}
 use Rattle.circle.proofs.Numbers.Signed.{sub-eq, pos-sub, pos-minus, add-sub, minus-sub}
 use Rattle.circle.proofs.Numbers.Man.{Turns, man-lt, man-unique, man-turns, man-turns-twice}
-use Rattle.circle.proofs.Numbers.Over.{first-ext, first-lt, least-ext, greatest-ext}
+use Rattle.circle.proofs.Numbers.Over.{first-ext, first-lt}
+use Rattle.circle.proofs.Numbers.Where.{over-ext}
 
 -- u's argument as one difference
 u-argument : (s : Timed) (i j e : ℕ) → pos (s .red i) -ℤ pos (s .red j) +ℤ t s i j -ℤ t′ s i j -ℤ pos e ≡ subℕ (s .red i + s .outbound j + s .inbound j) (s .red j + s .outbound i + s .inbound i + e)
@@ -80,30 +82,37 @@ module _ (s z : Timed) (agree : Agree s z) where
   width-agree i j e li lj =
       ap₂ (λ (x y : ℕ). pos x -ℤ pos (2 * y)) (u-agree i j e li lj) (agree .red j lj)
 
+  pub hasRed-agree : (j : ℕ) → j < s .signals → hasRed s j ≡ hasRed z j
+  hasRed-agree j lj = ap (ltb 0) (agree .red j lj)
+
   b-agree : (i : ℕ) → i < s .signals → b s i ≡ b z i
   unfolding b
   b-agree i li =
-      least-ext (s .signals) _ _
+      over-ext minℤ (pos (halves s)) (s .signals) (hasRed s) (hasRed z) _ _ hasRed-agree
       (λ j lj. ap₂ maxℤ (width-agree i j 0 li lj) (width-agree i j (s .cycle) li lj ∙ ap (pairWidth z i j) (agree .cycle)))
-      ∙ ap (λ (n : ℕ). leastBelow n (λ j. maxℤ (pairWidth z i j 0) (pairWidth z i j (z .cycle)))) (agree .signals)
+      ∙ ap₂ (λ (c n : ℕ). leastWhere (pos (2 * c)) n (hasRed z) (λ j. maxℤ (pairWidth z i j 0) (pairWidth z i j (z .cycle)))) (agree .cycle) (agree .signals)
 
   pub B-agree : B s ≡ B z
   unfolding B
-  B-agree = greatest-ext (s .signals) (b s) (b z) b-agree ∙ ap (λ (n : ℕ). greatestBelow n (b z)) (agree .signals)
+  B-agree =
+      over-ext maxℤ (pos (halves s)) (s .signals) (hasRed s) (hasRed z) (b s) (b z) hasRed-agree b-agree
+      ∙ ap₂ (λ (c n : ℕ). greatestWhere (pos (2 * c)) n (hasRed z) (b z)) (agree .cycle) (agree .signals)
 
   pub reference-agree : reference s ≡ reference z
   unfolding reference
   reference-agree =
       ap indexOf
-      (first-ext (s .signals) (λ i. eqℤ (b s i) (B s)) (λ i. eqℤ (b z i) (B z)) (λ i li. ap₂ eqℤ (b-agree i li) B-agree)
-      ∙ ap (λ (n : ℕ). firstBelow n (λ i. eqℤ (b z i) (B z))) (agree .signals))
+      (first-ext (s .signals) (λ i. hasRed s i and eqℤ (b s i) (B s)) (λ i. hasRed z i and eqℤ (b z i) (B z))
+      (λ i li. ap₂ _and_ (hasRed-agree i li) (ap₂ eqℤ (b-agree i li) B-agree))
+      ∙ ap (λ (n : ℕ). firstBelow n (λ i. hasRed z i and eqℤ (b z i) (B z))) (agree .signals))
 
   pub phase-agree : (c j : ℕ) → c < s .signals → j < s .signals → phase s c j ≡ phase z c j
   unfolding phase
   phase-agree c j lc lj =
-      ap₂ (λ p (e : ℕ). cond p 0 e)
+      ap₂ (λ r (e : ℕ). cond r e 0) (hasRed-agree j lj)
+      (ap₂ (λ p (e : ℕ). cond p 0 e)
       (ap₂ leℤ (width-agree c j (s .cycle) lc lj ∙ ap (pairWidth z c j) (agree .cycle)) (width-agree c j 0 lc lj))
-      (agree .cycle)
+      (agree .cycle))
 
   pub offset-agree : (c j : ℕ) → c < s .signals → j < s .signals → offset s c j ≡ offset z c j
   unfolding offset
@@ -125,7 +134,7 @@ module _ (s z : Timed) (agree : Agree s z) where
 -- the reference is one of the signals
 pub reference-lt : (s : Timed) → 0 < s .signals → reference s < s .signals
 unfolding reference
-reference-lt s h = first-lt (s .signals) (λ i. eqℤ (b s i) (B s)) h
+reference-lt s h = first-lt (s .signals) (λ i. hasRed s i and eqℤ (b s i) (B s)) h
 
 -- u from places on the cycle: each signal's red less its two sums, reduced once
 pub u-reduced : (s : Timed) (i j e x y : ℕ) → 0 < s .cycle → x ≡ man (halves s) (pos (s .red i) -ℤ pos (s .outbound i + s .inbound i)) → y ≡ man (halves s) (pos (s .red j) -ℤ pos (s .outbound j + s .inbound j)) → u s i j e ≡ halves s - man (halves s) (pos x -ℤ pos y -ℤ pos e)

@@ -1,23 +1,26 @@
 -- A request to move width, in plain numbers. Raised by the cycle B is a natural, and g is one as it stands; so a width in range is 1 or more, reaches B and leaves room for
--- each signal's red, and no other width is in range; and the lowerings and what is left for the other direction are truncated differences. A signal never leaves less than B beside its red, so B is at
--- most g; the reference's own u is the cycle, so an inbound request leaves it in place and an outbound one lowers it by w - B. Assumes nothing.
+-- each signal's red, and no other width is in range; and what is left for the other direction is a truncated difference, as are the lowerings of the signals with a red. Such a
+-- signal never leaves less than B beside its red, and B is at most the cycle, so B is at most g; the reference's own u is the cycle, so an inbound request leaves it in place and an outbound
+-- one lowers it by w - B: by nothing where it rests, since then both are the cycle. Assumes nothing.
 use Prim.Native.Nat.{ℕ, _+_, _-_, _*_, _≤_, _<_, max}
 use mathlib.Core.Path.{_≡_, refl, sym, ap, ap₂, _∙_}
 use mathlib.Core.Bool.{Bool, true, false, cond}
 use native.Mathlib.Omega.{arith}
+use native.Mathlib.Decide.{decLt}
 use lib.IntN.{pos, subℕ, _+ℤ_, _-ℤ_}
 use lib.Dec.{leb}
 use borrow.Author.Tests.{le-leb, leb-true}
-use Rattle.circle.specs.Signed.{leℤ, maxℤ, orZero}
+use Rattle.circle.specs.Signed.{leℤ, minℤ, maxℤ, orZero}
 use Rattle.circle.specs.Method.{Timed, halves, B, reference, phase, offset, equalWidth}
 use Rattle.circle.specs.Moved.{g, inRange, chosen, outboundLowering, inboundLowering, lowered, otherWidth}
 use Rattle.circle.proofs.Numbers.Signed.{sub-eq, pos-sub, pos-minus, pos-less, add-sub, minus-sub, sub-injective, le-sub, max-sub, orZero-sub}
 use Rattle.circle.proofs.Numbers.Man.{Turns, man-turns}
 use Rattle.circle.proofs.Numbers.Tests.{cond-left, cond-right}
-use Rattle.circle.proofs.Numbers.Over.{minBelow, min-le, min-at, min-from, least-raised}
+use Rattle.circle.proofs.Numbers.Over.{minBelow, min-le, min-at, min-from}
+use Rattle.circle.proofs.Numbers.Where.{least-raised, over-all}
 use Rattle.circle.proofs.Formulas.Method.{u-is, u-range}
-use Rattle.circle.proofs.Formulas.Raised.{Fit, B⁺, B-raised, low}
-use Rattle.circle.proofs.Formulas.Reference.{reference-first, u-turns, leaves, phase-own}
+use Rattle.circle.proofs.Formulas.Raised.{Fit, B⁺, B-raised, with-red, at-rest, low}
+use Rattle.circle.proofs.Formulas.Reference.{reference-first, reference-rests, B⁺-le, u-turns, leaves, phase-own}
 
 -- g: the shortest green
 abbrev pub green : Timed → ℕ
@@ -37,12 +40,12 @@ module _ (s : Timed) (fit : Fit s) where
   around : 0 < 2 * s .cycle
   around = omega (arith, fit .turns)
 
-  -- the chosen u: in 1 to H, never less than B beside the signal's red, and H at the reference
+  -- the chosen u: in 1 to H, never less than B beside a red, and H at the reference
   pub chosen-range : (j : ℕ) → (1 ≤ chosen s j) × (chosen s j ≤ halves s)
   unfolding chosen
   chosen-range j = u-range s (reference s) j (phase s (reference s) j) (fit .turns)
 
-  pub chosen-leaves : (j : ℕ) → j < s .signals → B⁺ s + 2 * s .red j ≤ chosen s j + halves s
+  pub chosen-leaves : (j : ℕ) → j < s .signals → 0 < s .red j → B⁺ s + 2 * s .red j ≤ chosen s j + halves s
   unfolding chosen
   chosen-leaves = leaves s fit
 
@@ -59,7 +62,7 @@ module _ (s : Timed) (fit : Fit s) where
       omega (arith, touches)
 
   -- g is at least what fits beside each red
-  green-from : (w : ℕ) → ((j : ℕ) → j < s .signals → w + 2 * s .red j ≤ halves s) → w ≤ green s
+  pub green-from : (w : ℕ) → ((j : ℕ) → j < s .signals → w + 2 * s .red j ≤ halves s) → w ≤ green s
   green-from w fits =
       min-from (halves s) (s .signals) (λ j. halves s - 2 * s .red j) w (omega (arith, fits 0 (fit .some))) (λ j l. omega (arith, fits j l))
 
@@ -78,7 +81,11 @@ module _ (s : Timed) (fit : Fit s) where
 
   -- B is at most g
   pub B-fits : (j : ℕ) → j < s .signals → B⁺ s + 2 * s .red j ≤ 2 * halves s
-  B-fits j l = omega (arith, chosen-leaves j l, chosen-range j)
+  B-fits j l = go (decLt 0 (s .red j))
+    where
+      go : Dec (0 < s .red j) → B⁺ s + 2 * s .red j ≤ 2 * halves s
+      go (yes red) = omega (arith, chosen-leaves j l red, chosen-range j)
+      go (no none) = omega (arith, none, B⁺-le s fit)
 
   pub B-green : B⁺ s ≤ green s + halves s
   B-green =
@@ -88,10 +95,11 @@ module _ (s : Timed) (fit : Fit s) where
   pub g-is : g s ≡ pos (green s)
   unfolding g
   g-is =
-      least-raised 0 (halves s) (s .signals)
+      over-all minℤ (pos 0) (subℕ (halves s) 0) (s .signals) (λ j. pos (halves s) -ℤ pos (2 * s .red j)) (fit .some)
+      ∙ least-raised 0 (halves s) (s .signals)
+      (λ j. true)
       (λ j. pos (halves s) -ℤ pos (2 * s .red j))
       (λ j. halves s - 2 * s .red j)
-      (fit .some)
       (λ j l. omega arith)
       (λ j l. sym (pos-less (halves s) (2 * s .red j) (low s fit j l)) ∙ pos-sub (halves s - 2 * s .red j))
       ∙ sym (pos-sub (green s))
@@ -133,24 +141,37 @@ module _ (s : Timed) (fit : Fit s) where
       go true e = absurd (none (asked w e))
       go false e = refl
 
-  -- the lowerings and the other direction's width
-  pub outbound-lowering : (w j : ℕ) → outboundLowering s w j ≡ chosen s j + w - B⁺ s
+  -- the lowerings of a signal with a red
+  pub outbound-lowering : (w j : ℕ) → 0 < s .red j → outboundLowering s w j ≡ chosen s j + w - B⁺ s
   unfolding outboundLowering
-  outbound-lowering w j =
+  outbound-lowering w j red =
       let H = halves s in
       let u = chosen s j in
-      ap orZero
+      ap (λ t. cond t (orZero (pos u -ℤ pos H +ℤ pos w -ℤ B s)) 0) (with-red s j red)
+      ∙ ap orZero
       (ap₂ (λ x y. x +ℤ y -ℤ B s) (pos-minus u H) (pos-sub w)
       ∙ ap₂ (λ x y. x -ℤ y) (add-sub u H w 0) (B-raised s fit)
       ∙ minus-sub (u + w) (H + 0) (B⁺ s) H
       ∙ sub-eq (u + w + H) (H + 0 + B⁺ s) (u + w) (B⁺ s) (omega arith))
       ∙ orZero-sub (u + w) (B⁺ s)
 
-  pub inbound-lowering : (w j : ℕ) → inboundLowering s w j ≡ w + 2 * s .red j - chosen s j
+  pub inbound-lowering : (w j : ℕ) → 0 < s .red j → inboundLowering s w j ≡ w + 2 * s .red j - chosen s j
   unfolding inboundLowering
-  inbound-lowering w j =
-      ap orZero (pos-minus (w + 2 * s .red j) (chosen s j)) ∙ orZero-sub (w + 2 * s .red j) (chosen s j)
+  inbound-lowering w j red =
+      ap (λ t. cond t (orZero (pos (w + 2 * s .red j) -ℤ pos (chosen s j))) 0) (with-red s j red)
+      ∙ ap orZero (pos-minus (w + 2 * s .red j) (chosen s j))
+      ∙ orZero-sub (w + 2 * s .red j) (chosen s j)
 
+  -- and of one that rests
+  pub resting-outbound : (w j : ℕ) → (0 < s .red j → ⊥) → outboundLowering s w j ≡ 0
+  unfolding outboundLowering
+  resting-outbound w j none = ap (λ t. cond t (orZero (pos (chosen s j) -ℤ pos (halves s) +ℤ pos w -ℤ B s)) 0) (at-rest s j none)
+
+  pub resting-inbound : (w j : ℕ) → (0 < s .red j → ⊥) → inboundLowering s w j ≡ 0
+  unfolding inboundLowering
+  resting-inbound w j none = ap (λ t. cond t (orZero (pos w +ℤ pos (2 * s .red j) -ℤ pos (chosen s j))) 0) (at-rest s j none)
+
+  -- the other direction's width
   pub double : B s +ℤ B s ≡ subℕ (2 * B⁺ s) (2 * halves s)
   double =
       let H = halves s in
@@ -182,8 +203,17 @@ module _ (s : Timed) (fit : Fit s) where
   module _ (w : ℕ) (a : Asked s w) where
     -- the reference's own
     pub outbound-lowering-own : outboundLowering s w (reference s) + B⁺ s ≡ w + halves s
-    outbound-lowering-own = omega (arith, outbound-lowering w (reference s), chosen-own, a .reaches)
+    outbound-lowering-own = go (decLt 0 (s .red (reference s)))
+      where
+        go : Dec (0 < s .red (reference s)) → outboundLowering s w (reference s) + B⁺ s ≡ w + halves s
+        go (yes red) = omega (arith, outbound-lowering w (reference s) red, chosen-own, a .reaches)
+        go (no none) =
+            omega (arith, resting-outbound w (reference s) none, reference-rests s fit none .0, a .reaches, a .fits (reference s) (reference-first s fit .below))
 
     pub inbound-lowering-own : inboundLowering s w (reference s) ≡ 0
-    inbound-lowering-own =
-        omega (arith, inbound-lowering w (reference s), chosen-own, a .fits (reference s) (reference-first s fit .below))
+    inbound-lowering-own = go (decLt 0 (s .red (reference s)))
+      where
+        go : Dec (0 < s .red (reference s)) → inboundLowering s w (reference s) ≡ 0
+        go (yes red) =
+            omega (arith, inbound-lowering w (reference s) red, chosen-own, a .fits (reference s) (reference-first s fit .below))
+        go (no none) = resting-inbound w (reference s) none

@@ -1,5 +1,5 @@
 -- Laws of sums, choices and searches over the indices below a count: how each grows by one index, that only the indices below the count matter, and
--- how a search is settled. Least and greatest are also those of naturals raised by one amount. Assumes nothing.
+-- how a search is settled. Assumes nothing.
 use Prim.Native.Nat.{ℕ, zero, suc, _+_, _≤_, _<_, min, max}
 use mathlib.Core.Path.{_≡_, refl, sym, ap, ap₂, _∙_}
 use mathlib.Core.Bool.{Bool, true, false, cond}
@@ -8,12 +8,9 @@ use mathlib.Core.Logic.{⊎-elim}
 use native.Mathlib.Omega.{arith}
 use native.Mathlib.Numerals.{add-one}
 use native.Mathlib.Nat.{eq-or-lt-of-le, le-of-suc-le-suc}
-use lib.IntN.{ℤ, subℕ}
 use lib.ListN.{length, length-append, getD, set, drop}
 use lib.Seq.{set-at, drop-cons, getD-at, append-snoc}
-use Rattle.circle.specs.Signed.{minℤ, maxℤ}
-use Rattle.circle.specs.Over.{Found, nowhere, at, orElse, firstBelow, sumBelow, leastBelow, greatestBelow, listBelow, indexOf}
-use Rattle.circle.proofs.Numbers.Signed.{min-sub, max-sub}
+use Rattle.circle.specs.Over.{Found, nowhere, at, orElse, firstBelow, sumBelow, listBelow, indexOf}
 
 -- a search comes to nothing where no index passes
 pub first-nowhere : (n : ℕ) (test : ℕ → Bool) → ((k : ℕ) → k < n → test k ≡ false) → firstBelow n test ≡ nowhere
@@ -44,25 +41,6 @@ first-ext zero f g e = refl
 first-ext (suc n) f g e =
     let here : n < suc n = omega arith in
     ap₂ (λ r t. orElse r (cond t (at n) nowhere)) (first-ext n f g (λ k l. e k (omega arith))) (e n here)
-
-pub least-ext : (n : ℕ) (f g : ℕ → ℤ) → ((k : ℕ) → k < n → f k ≡ g k) → leastBelow n f ≡ leastBelow n g
-unfolding leastBelow
-least-ext zero f g e = refl
-least-ext (suc zero) f g e = e 0 (omega arith)
-least-ext (suc (suc n)) f g e =
-    ap₂ minℤ (least-ext (suc n) f g (λ k l. e k (omega arith))) (e (suc n) (omega arith))
-
-pub greatest-ext : (n : ℕ) (f g : ℕ → ℤ) → ((k : ℕ) → k < n → f k ≡ g k) → greatestBelow n f ≡ greatestBelow n g
-unfolding greatestBelow
-greatest-ext zero f g e = refl
-greatest-ext (suc zero) f g e = e 0 (omega arith)
-greatest-ext (suc (suc n)) f g e =
-    ap₂ maxℤ (greatest-ext (suc n) f g (λ k l. e k (omega arith))) (e (suc n) (omega arith))
-
-pub least-more : (n : ℕ) (f : ℕ → ℤ) → 1 ≤ n → leastBelow (n + 1) f ≡ minℤ (leastBelow n f) (f n)
-unfolding leastBelow
-least-more zero f l = absurd (omega arith)
-least-more (suc n) f l = ap (λ (k : ℕ). leastBelow k f) (add-one (suc n))
 
 pub sum-more : (n : ℕ) (f : ℕ → ℕ) → sumBelow (n + 1) f ≡ sumBelow n f + f n
 unfolding sumBelow
@@ -118,6 +96,7 @@ pub max-more : (n : ℕ) (g : ℕ → ℕ) → maxBelow (n + 1) g ≡ max (maxBe
 unfolding maxBelow
 max-more n g = ap (λ (k : ℕ). maxBelow k g) (add-one n)
 
+-- the greatest is at least each, and a number that is at least each is at least the greatest
 pub max-ge : (n : ℕ) (g : ℕ → ℕ) (k : ℕ) → k < n → g k ≤ maxBelow n g
 unfolding maxBelow
 max-ge zero g k l = absurd (omega arith)
@@ -127,31 +106,13 @@ max-ge (suc n) g k l =
     (λ m. let below = max-ge n g k m in omega arith)
     (eq-or-lt-of-le (le-of-suc-le-suc l))
 
--- the least of signed numbers is that of the naturals they are when raised by h
-pub least-raised : (h top n : ℕ) (f : ℕ → ℤ) (g : ℕ → ℕ) → 0 < n → ((k : ℕ) → k < n → g k ≤ top) → ((k : ℕ) → k < n → f k ≡ subℕ (g k) h) → leastBelow n f ≡ subℕ (minBelow top n g) h
-unfolding leastBelow minBelow
-least-raised h top zero f g n low e = absurd (omega arith)
-least-raised h top (suc zero) f g n low e =
-    let l : g 0 ≤ top = low 0 (omega arith) in
-    let same : g 0 ≡ min top (g 0) = omega arith in
-    e 0 (omega arith) ∙ ap (λ (x : ℕ). subℕ x h) same
-least-raised h top (suc (suc n)) f g _ low e =
-    ap₂ minℤ
-    (least-raised h top (suc n) f g (omega arith) (λ k l. low k (omega arith)) (λ k l. e k (omega arith)))
-    (e (suc n) (omega arith))
-    ∙ min-sub (minBelow top (suc n) g) (g (suc n)) h
-
-pub greatest-raised : (h n : ℕ) (f : ℕ → ℤ) (g : ℕ → ℕ) → 0 < n → ((k : ℕ) → k < n → f k ≡ subℕ (g k) h) → greatestBelow n f ≡ subℕ (maxBelow n g) h
-unfolding greatestBelow maxBelow
-greatest-raised h zero f g n e = absurd (omega arith)
-greatest-raised h (suc zero) f g n e =
-    let same : g 0 ≡ max 0 (g 0) = omega arith in
-    e 0 (omega arith) ∙ ap (λ (x : ℕ). subℕ x h) same
-greatest-raised h (suc (suc n)) f g _ e =
-    ap₂ maxℤ
-    (greatest-raised h (suc n) f g (omega arith) (λ k l. e k (omega arith)))
-    (e (suc n) (omega arith))
-    ∙ max-sub (maxBelow (suc n) g) (g (suc n)) h
+pub max-to : (n : ℕ) (g : ℕ → ℕ) (x : ℕ) → ((k : ℕ) → k < n → g k ≤ x) → maxBelow n g ≤ x
+unfolding maxBelow
+max-to zero g x each = omega arith
+max-to (suc n) g x each =
+    let before = max-to n g x (λ k h. each k (omega arith)) in
+    let last = each n (omega arith) in
+    omega arith
 
 -- the list of the values below a count
 pub length-listBelow {ℓ} : {A : Type ℓ} (n : ℕ) (f : ℕ → A) → length (listBelow n f) ≡ n

@@ -7,8 +7,8 @@ use mathlib.Core.Logic.{⊎-elim}
 use native.Mathlib.Omega.{arith}
 use native.Mathlib.Nat.{eq-or-lt-of-le, le-of-suc-le-suc}
 use borrow.Author.Tests.{not-true, not-false}
-use Rattle.circle.specs.Over.{Found, nowhere, at, orElse, firstBelow, indexOf}
-use Rattle.circle.specs.Bands.{allBelow, someBelow, greatestUpTo}
+use Rattle.circle.specs.Over.{Found, nowhere, at, orElse, firstBelow, indexOf, allBelow, someBelow}
+use Rattle.circle.specs.Bands.{greatestUpTo}
 use Rattle.circle.proofs.Numbers.Over.{first-none}
 
 pub true-false : _≡_ {A = Bool} true false → ⊥
@@ -77,6 +77,11 @@ pub some-where : (n : ℕ) (test : ℕ → Bool) → someBelow n test ≡ true �
 some-where n test e =
     let w = all-fails n (λ i. not (test i)) (not-true (allBelow n (λ i. not (test i))) e) in
     record { index = w .index; below = w .below; is = not-false (test (w .index)) (w .is) }
+
+-- and where not, none does
+pub some-none : (n : ℕ) (test : ℕ → Bool) → someBelow n test ≡ false → (k : ℕ) → k < n → test k ≡ false
+some-none n test e k l =
+    not-true (test k) (all-each n (λ i. not (test i)) (not-false (allBelow n (λ i. not (test i))) e) k l)
 
 -- the greatest up to n is at most n, passes unless it is 0, and is at least whatever passes
 pub greatest-le : (n : ℕ) (test : ℕ → Bool) → greatestUpTo n test ≤ n

@@ -15,12 +15,13 @@ pub record Passes (w : Way) (x k : ℕ) : Type 0 where
   pub most : k ≤ w .around
   pub each : (j : ℕ) → j < w .signals → 0 < w .length j → since w x j + k + w .length j ≤ w .around
 
--- a stretch of signed length v - a from x on: each signal that has a red leaves room for v departures, or lacks a of it at most
+-- a stretch of signed length v - a from x on, at most the cycle: each signal that has a red leaves room for v departures, or lacks a of it at most
 pub record Spans (w : Way) (x v a : ℕ) : Type 0 where
+  pub most : v ≤ w .around + a
   pub each : (j : ℕ) → j < w .signals → 0 < w .length j → since w x j + v + w .length j ≤ w .around + a
 
 pub spans : {w : Way} {x k : ℕ} → Passes w x k → Spans w x k 0
-spans passes = record { each = λ j l r. omega (arith, passes .each j l r) }
+spans passes = record { most = omega (arith, passes .most); each = λ j l r. omega (arith, passes .each j l r) }
 
 -- a width that keeps to a bound where there is one keeps to it
 pub where-some : (v top : ℕ) → (1 ≤ v → v ≤ top) → v ≤ top

@@ -11,10 +11,12 @@ use lib.IntN.{pos, _-ℤ_}
 use lib.Dec.{leb}
 use borrow.Author.Tests.{le-leb, leb-true}
 use Rattle.circle.specs.Man.{man}
-use Rattle.circle.specs.Over.{firstBelow, indexOf}
-use Rattle.circle.specs.Bands.{Way, allBelow, someBelow, clear, stretch, width, bandStart}
+use Rattle.circle.specs.Over.{firstBelow, indexOf, allBelow, someBelow}
+use Rattle.circle.specs.Method.{Timed}
+use Rattle.circle.specs.Bands.{Way, wayThrough, clear, stretch, width, bandStart}
 use Rattle.circle.proofs.Numbers.Man.{Turns, man-lt, man-is, man-turns}
 use Rattle.circle.proofs.Numbers.Over.{first-at}
+use Rattle.circle.proofs.Formulas.Raised.{Fit}
 use Rattle.circle.proofs.Stretches.Arcs.{since, Passes}
 use Rattle.circle.proofs.Numbers.Tests.{Where, all-true, all-each, some-true, some-where, greatest-le, greatest-passes, greatest-ge, first-where}
 
@@ -22,6 +24,10 @@ use Rattle.circle.proofs.Numbers.Tests.{Where, all-true, all-each, some
 pub record Proper (w : Way) : Type 0 where
   pub turns : 0 < w .around
   pub fits : (j : ℕ) → j < w .signals → w .length j ≤ w .around
+
+-- both ways through a street are such, under any lags
+pub proper-way : {lag : ℕ → ℕ} (s : Timed) (f : ℕ → ℕ) → Fit s → Proper (wayThrough s f lag)
+proper-way s f fit = record { turns = omega (arith, fit .turns); fits = λ j l. omega (arith, fit .goes j l) }
 
 -- one signal, its red from s on for l, and a car there at a: the departure i later is clear where the working form holds
 passed-clear : (M a s l k i b : ℕ) → man M (pos a -ℤ pos (s + l)) + k + l ≤ M → i < k → b ≡ a + i → l ≤ man M (pos b -ℤ pos s)

@@ -8,9 +8,9 @@ use native.Mathlib.Omega.{arith}
 use lib.IntN.{pos, _-ℤ_}
 use lib.Dec.{leb}
 use Rattle.circle.specs.Man.{man}
-use Rattle.circle.specs.Over.{firstBelow, indexOf}
+use Rattle.circle.specs.Over.{firstBelow, indexOf, allBelow, someBelow}
 use Rattle.circle.specs.Method.{Timed}
-use Rattle.circle.specs.Bands.{Way, allBelow, someBelow, greatestUpTo, clear, stretch, width, bandStart, outboundWay, inboundWay}
+use Rattle.circle.specs.Bands.{Way, greatestUpTo, clear, stretch, width, bandStart, outboundWay, inboundWay}
 use Rattle.circle.proofs.Numbers.Over.{first-ext}
 use Rattle.circle.proofs.Formulas.Method.{Agree, redStart-agree}
 use Rattle.circle.proofs.Stretches.Since.{along}

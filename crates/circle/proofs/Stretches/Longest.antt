@@ -6,14 +6,14 @@ use mathlib.Core.Path.{_≡_, refl, ap}
 use mathlib.Core.Bool.{cond}
 use mathlib.Core.Logic.{_⊎_, inl, inr, ⊎-elim}
 use native.Mathlib.Omega.{arith}
-use native.Mathlib.Decide.{decLt, decLe}
-use native.Mathlib.Nat.{eq-or-lt-of-le, le-of-suc-le-suc}
+use native.Mathlib.Decide.{decLt}
 use lib.IntN.{pos, _-ℤ_}
 use lib.Dec.{ltb}
 use borrow.Author.Tests.{lt-ltb, le-ltb}
 use Rattle.circle.specs.Man.{man}
 use Rattle.circle.specs.Bands.{Way, greatestUpTo, stretch, width}
 use Rattle.circle.proofs.Numbers.Man.{man-lt, man-is, man-turns}
+use Rattle.circle.proofs.Numbers.Least.{Least, least-or-none}
 use Rattle.circle.proofs.Numbers.Over.{minBelow, min-le, min-at, min-from}
 use Rattle.circle.proofs.Stretches.Arcs.{since, Passes}
 use Rattle.circle.proofs.Numbers.Tests.{greatest-le, greatest-passes, greatest-ge, greatest-is}
@@ -95,62 +95,6 @@ passes-sooner w proper x k d l later p =
           omega (arith, is, p .each j lj red);
     }
 
--- a signal below n with a red, none of which ended later
-record Soonest (w : Way) (x n : ℕ) : Type 0 where
-  signal : ℕ
-  below : signal < n
-  red : 0 < w .length signal
-  least : (j : ℕ) → j < n → 0 < w .length j → since w x signal ≤ since w x j
-
-order : (a b : ℕ) → (a ≤ b) ⊎ (b < a)
-order a b = pick (decLe a b)
-  where
-    pick : Dec (a ≤ b) → (a ≤ b) ⊎ (b < a)
-    pick (yes h) = inl h
-    pick (no n) = inr (omega arith)
-
-soonest-or : (w : Way) (x n : ℕ) → Soonest w x n ⊎ ((j : ℕ) → j < n → 0 < w .length j → ⊥)
-soonest-or w x zero = inr (λ j l red. omega arith)
-soonest-or w x (suc n) = go (soonest-or w x n) (decLt 0 (w .length n))
-  where
-    new : 0 < w .length n → ((j : ℕ) → j < n → 0 < w .length j → since w x n ≤ since w x j) → Soonest w x (suc n)
-    new red least =
-        record {
-          signal = n;
-          below = omega arith;
-          red = red;
-          least =
-              λ j l r.
-              ⊎-elim (λ s. omega (arith, ap (since w x) s)) (λ m. least j m r) (eq-or-lt-of-le (le-of-suc-le-suc l));
-        }
-
-    old : (s : Soonest w x n) → (0 < w .length n → since w x (s .signal) ≤ since w x n) → Soonest w x (suc n)
-    old s here =
-        record {
-          signal = s .signal;
-          below = omega (arith, s .below);
-          red = s .red;
-          least =
-              λ j l r.
-              ⊎-elim
-              (λ e. omega (arith, ap (since w x) e, here (omega (arith, ap (w .length) e))))
-              (λ m. s .least j m r)
-              (eq-or-lt-of-le (le-of-suc-le-suc l));
-        }
-
-    go : Soonest w x n ⊎ ((j : ℕ) → j < n → 0 < w .length j → ⊥) → Dec (0 < w .length n) → Soonest w x (suc n) ⊎ ((j : ℕ) → j < suc n → 0 < w .length j → ⊥)
-    go (inr none) (yes red) = inl (new red (λ j m r. absurd (none j m r)))
-    go (inr none) (no dark) =
-        inr
-        (λ j l r.
-        ⊎-elim (λ s. dark (omega (arith, ap (w .length) s))) (λ m. none j m r) (eq-or-lt-of-le (le-of-suc-le-suc l)))
-    go (inl s) (no dark) = inl (old s (λ r. absurd (dark r)))
-    go (inl s) (yes red) =
-        ⊎-elim
-        (λ le. inl (old s (λ r. le)))
-        (λ lt. inl (new red (λ j m r. omega (arith, s .least j m r))))
-        (order (since w x (s .signal)) (since w x n))
-
 -- a signal with a red that ends as the departure at x comes by
 pub record Ending (w : Way) (x : ℕ) : Type 0 where
   pub signal : ℕ
@@ -158,27 +102,24 @@ pub record Ending (w : Way) (x : ℕ) : Type 0 where
   pub red : 0 < w .length signal
   pub ends : since w x signal ≡ 0
 
--- where some signal has a red, a stretch of the greatest width starts as a red ends
-pub starts-ending : (w : Way) → Proper w → (j : ℕ) → j < w .signals → 0 < w .length j → (x : ℕ) → 1 ≤ width w → Passes w x (width w) → Ending w x
-starts-ending w proper j lj red x one p = go (soonest-or w x (w .signals))
+-- a stretch of the greatest width starts as a red ends, or no signal has a red
+pub starts-ending : (w : Way) → Proper w → (x : ℕ) → Passes w x (width w) → Ending w x ⊎ ((j : ℕ) → j < w .signals → 0 < w .length j → ⊥)
+starts-ending w proper x p = ⊎-elim (λ s. inl (ending s)) inr (least-or-none (w .signals) (w .length) (since w x))
   where
-    go : Soonest w x (w .signals) ⊎ ((i : ℕ) → i < w .signals → 0 < w .length i → ⊥) → Ending w x
-    go (inr none) = absurd (none j lj red)
-    go (inl s) =
-        let d = since w x (s .signal) in
-        let fits : d + width w + w .length (s .signal) ≤ w .around = p .each (s .signal) (s .below) (s .red) in
+    -- of the signals with a red one whose red ended last: had it ended some time ago, the stretch could start that much sooner
+    ending : Least (w .signals) (w .length) (since w x) → Ending w x
+    ending s =
+        let d = since w x (s .at) in
+        let fits : d + width w + w .length (s .at) ≤ w .around = p .each (s .at) (s .below) (s .counts) in
         let sooner = passes-sooner w proper x (width w) d (omega arith) (s .least) p in
         let most = width-ge w proper (x + (w .around - d)) (width w + d) sooner in
-        record { signal = s .signal; below = s .below; red = s .red; ends = omega arith }
+        record { signal = s .at; below = s .below; red = s .counts; ends = omega arith }
 
 -- the instant at the departure signal that comes to signal i as its red ends
 abbrev pub endAt : Way → ℕ → ℕ
 endAt w i = man (w .around) (pos (w .start i + w .length i) -ℤ pos (w .lag i))
 
-pub end-lt : (w : Way) → Proper w → (i : ℕ) → endAt w i < w .around
-end-lt w proper i = man-lt (w .around) (pos (w .start i + w .length i) -ℤ pos (w .lag i)) (proper .turns)
-
--- and the only one on the cycle
+-- it is the only one on the cycle
 pub end-is : (w : Way) → Proper w → (x i : ℕ) → x < w .around → since w x i ≡ 0 → endAt w i ≡ x
 end-is w proper x i l none =
     let c = man-turns (w .around) (x + w .lag i) (w .start i + w .length i) (proper .turns) in

@@ -10,7 +10,7 @@ use native.Mathlib.Omega.{arith}
 use lib.IntN.{pos, subℕ, _+ℤ_, _-ℤ_}
 use Rattle.circle.specs.Signed.{leℤ}
 use Rattle.circle.specs.Man.{man}
-use Rattle.circle.specs.Method.{Timed, halves, t, t′, pairWidth, phase, offset}
+use Rattle.circle.specs.Method.{Timed, halves, t, t′, pairWidth, hasRed, phase, offset}
 use Rattle.circle.specs.Bands.{Way, outboundWay, inboundWay}
 use Rattle.circle.proofs.Numbers.Signed.{sub-eq, pos-sub, pos-minus, add-sub}
 use Rattle.circle.proofs.Numbers.Man.{Turns, man-lt, man-back, man-turns}
@@ -76,11 +76,12 @@ offset-turns s c j e f h centre =
 pub offset-patterned : (s : Timed) (c : ℕ) → 0 < halves s → Patterned s c (phase s c) (offset s c)
 unfolding phase offset
 offset-patterned s c h =
-    record { either = λ j l. go (leℤ (pairWidth s c j (s .cycle)) (pairWidth s c j 0)); centre = λ j l. offset-turns s c j (phase s c j) (offset s c j) h refl }
+    record { either = λ j l. go (hasRed s j) (leℤ (pairWidth s c j (s .cycle)) (pairWidth s c j 0)); centre = λ j l. offset-turns s c j (phase s c j) (offset s c j) h refl }
   where
-    go : (p : Bool) → (cond p 0 (s .cycle) ≡ 0) ⊎ (cond p 0 (s .cycle) ≡ s .cycle)
-    go true = inl refl
-    go false = inr refl
+    go : (red p : Bool) → (cond red (cond p 0 (s .cycle)) 0 ≡ 0) ⊎ (cond red (cond p 0 (s .cycle)) 0 ≡ s .cycle)
+    go true true = inl refl
+    go true false = inr refl
+    go false p = inl refl
 
 -- what the two directions mirror about
 fixed : Timed → ℕ → ℕ

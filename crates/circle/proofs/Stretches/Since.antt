@@ -22,10 +22,6 @@ along w lag =
       lag = lag;
     }
 
--- every signal has a red
-abbrev pub Stops : Timed → Type 0
-Stops s = (j : ℕ) → j < s .signals → 0 < s .red j
-
 -- no signal is farther inbound than the last one, so an inbound lag is a plain difference
 abbrev pub Rising : Timed → Type 0
 Rising s = (j : ℕ) → j < s .signals → s .inbound j ≤ s .inbound (s .signals - 1)

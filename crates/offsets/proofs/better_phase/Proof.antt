@@ -2,7 +2,7 @@
 use native.Mathlib.Omega.{arith}
 use lib.ListN.{getD}
 use borrow.Author.Needs.{needs}
-use Rattle.offsets.proofs.OffsetLaws.{HasU, even-range, odd-range, choice-even, choice-odd}
+use Rattle.offsets.proofs.OffsetLaws.{HasU, has-us, choice-even, choice-odd}
 use Rattle.offsets.proofs.better_phase.Statement.{statement}
 use Rattle.offsets.proofs.better_phase.Tie as tie
 
@@ -10,12 +10,12 @@ use Rattle.offsets.proofs.better_phase.Tie as tie
 even : (c : tie.After-pair) → HasU (c .before .args .cycle) (c .before .args .red) (getD (c .pair .result) 0 0)
 even c =
     let a = c .before .args in
-    even-range (a .cycle) (a .from) (a .to) (a .red) (c .pair .result) (c .before .pre .0) (c .before .pre .4) (c .pair .ensures)
+    has-us (a .cycle) (a .from) (a .to) (a .red) (c .pair .result) (c .before .pre .0) (c .before .pre .4) (c .pair .ensures) .0
 
 odd : (c : tie.After-pair) → HasU (c .before .args .cycle) (c .before .args .red) (getD (c .pair .result) 1 0)
 odd c =
     let a = c .before .args in
-    odd-range (a .cycle) (a .from) (a .to) (a .red) (c .pair .result) (c .before .pre .0) (c .before .pre .4) (c .pair .ensures)
+    has-us (a .cycle) (a .from) (a .to) (a .red) (c .pair .result) (c .before .pre .0) (c .before .pre .4) (c .pair .ensures) .1
 
 pair-requires : tie.Need-pair-requires
 pair-requires c κs = search needs

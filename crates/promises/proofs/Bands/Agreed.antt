@@ -13,7 +13,7 @@ use Rattle.circle.proofs.Bands.{Named, Bands}
 module _ (s : Timed) (f g : ℕ → ℕ) (same : (j : ℕ) → j < s .signals → g j ≡ f j) where
   spans-same : {lag : ℕ → ℕ} (x v lack : ℕ) → Spans (wayThrough s f lag) x v lack → Spans (wayThrough s g lag) x v lack
   spans-same {lag} x v lack stretch =
-      record { each = λ j l r. subst (λ (z : ℕ). man (halves s) (pos (x + lag j) -ℤ pos (redStart s j z + 2 * s .red j)) + v + 2 * s .red j ≤ halves s + lack) (sym (same j l)) (stretch .each j l r) }
+      record { most = stretch .most; each = λ j l r. subst (λ (z : ℕ). man (halves s) (pos (x + lag j) -ℤ pos (redStart s j z + 2 * s .red j)) + v + 2 * s .red j ≤ halves s + lack) (sym (same j l)) (stretch .each j l r) }
 
   named-same : {lag : ℕ → ℕ} (c instant a v : ℕ) → Named (wayThrough s f lag) c instant a v → Named (wayThrough s g lag) c instant a v
   named-same c instant a v named =

@@ -9,7 +9,7 @@ use native.Mathlib.Decide.{decLe}
 use Rattle.circle.specs.Method.{inUnits}
 use Rattle.circle.specs.Bands.{Way, clear, stretch, width, bandStart, wayThrough}
 use Rattle.circle.proofs.Numbers.{Turns, man-turns, all-each}
-use Rattle.circle.proofs.Stretches.{Passes, Proper, passes-stretch, since-turns, width-ge, band-starts, lags-passes, lags-back, part}
+use Rattle.circle.proofs.Stretches.{Passes, Proper, passes-stretch, since-turns, width-ge, band-starts, lags-passes, lags-back, part, proper-way}
 use Rattle.circle.proofs.Bands.{Named, meets, finer-passes, fit-scaled}
 use Rattle.street.specs.Lists.{Lists, signals}
 use Rattle.street.specs.Checks.{planChecks}
@@ -18,7 +18,6 @@ use Rattle.street.specs.declared.Verdict.the-variants.{Passed}
 use Rattle.promises.specs.Replies.{InsideClear, intoBand}
 use Rattle.promises.proofs.Streets.Passing.{fit}
 use Rattle.promises.proofs.Streets.Directions.{wayIn, Direction}
-use Rattle.promises.proofs.Bands.Widths.{proper-way}
 
 -- of k departures that pass each one is clear, and so is one that differs from it by whole turns
 turned : (w : Way) → Proper w → (x y i k : ℕ) → i < k → Turns (w .around) x (y + i) → Passes w y k → clear w x ≡ true

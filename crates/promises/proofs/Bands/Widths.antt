@@ -6,14 +6,9 @@ use native.Mathlib.Omega.{arith}
 use native.Mathlib.Nat.{le-antisymm}
 use Rattle.circle.specs.Method.{Timed, halves, reference, redEnd, redStart}
 use Rattle.circle.specs.Bands.{Way, width, outboundWay, inboundWay}
-use Rattle.circle.proofs.Stretches.{Passes, where-some, along, Proper, width-ge, band-starts}
+use Rattle.circle.proofs.Stretches.{Passes, where-some, along, Proper, proper-way, width-ge, band-starts}
 use Rattle.circle.proofs.Formulas.{Fit}
 use Rattle.circle.proofs.Bands.{Bounded, Named, Bands, meets, longest-both}
-
--- both ways through a street, under any lags
-pub proper-way : {lag : ℕ → ℕ} (s : Timed) (f : ℕ → ℕ) → Fit s → Proper (along (outboundWay s f) lag)
-proper-way s f fit =
-    record { turns = omega (arith, fit .turns); fits = λ j l. omega (arith, fit .goes j l) }
 
 module _ (w : Way) (proper : Proper w) where
   -- no stretch longer than v, no band wider

@@ -12,7 +12,7 @@ use Rattle.circle.specs.Bands.{width, outboundWay, inboundWay}
 use Rattle.circle.specs.Moved.{otherWidth}
 use Rattle.circle.proofs.Stretches.{Passes, spans}
 use Rattle.circle.proofs.Formulas.{Fit, reference-first, B⁺, equal-width}
-use Rattle.circle.proofs.Bands.{Bands, beside, longest-both, fit-scaled, greatest-scaled, other-scaled, finer-spans, outbound-finer, inbound-finer}
+use Rattle.circle.proofs.Bands.{Bands, beside, longest-both, fit-scaled, B⁺-scaled, other-scaled, finer-spans, outbound-finer, inbound-finer}
 use Rattle.street.specs.Lists.{Lists}
 use Rattle.street.specs.Checks.{planChecks}
 use Rattle.street.specs.Streets.{timed}
@@ -33,7 +33,7 @@ module _ (l : Lists) (room : ℕ) (passed : planChecks l room ≡ Passed) (N r :
       v + v′ + 2 * (N * halves (timed l)) ≤ 2 * (N * B⁺ (timed l))
   together f x y v v′ p q =
       let most = bounded-fine l room passed N (near .some) f x y v v′ 0 0 (spans p) (spans q) in
-      omega (arith, greatest-scaled N (timed l) (near .some) (fit l room passed))
+      omega (arith, B⁺-scaled N (timed l) (near .some) (fit l room passed))
 
   -- B, in the fine unit, is at most the equal width
   B-most : N * B⁺ (timed l) ≤ N * equalWidth (timed l) + N * halves (timed l)
@@ -109,7 +109,7 @@ module _ (l : Lists) (room : ℕ) (passed : planChecks l room ≡ Passed) (N r :
         let turn = fit l room passed .turns in
         let to = finer-spans N (outboundWay s f) (outboundWay z f⁺) (outbound-finer N s f (near .some) turn) around (named .x) v (named .lack) (named .out-spans) in
         let fro = finer-spans N (inboundWay s f) (inboundWay z f⁺) (inbound-finer N s f (near .some) turn) around (named .y) v′ (named .lack′) (named .back-spans) in
-        let all : N * v + N * v′ + 2 * halves z ≡ 2 * B⁺ z + (N * named .lack + N * named .lack′) = omega (arith, ap (λ (k : ℕ). N * k) (named .all), greatest-scaled N s (near .some) (fit l room passed)) in
+        let all : N * v + N * v′ + 2 * halves z ≡ 2 * B⁺ z + (N * named .lack + N * named .lack′) = omega (arith, ap (λ (k : ℕ). N * k) (named .all), B⁺-scaled N s (near .some) (fit l room passed)) in
         let most = longest-both z (bounded-fine l room passed N (near .some)) f⁺ (N * named .x) (N * named .y) (N * v) (N * v′) (N * named .lack) (N * named .lack′) to fro all in (
           named-exact l room passed N r (near .some) (near .outwards) f nothing c (redEnd s c (f c)) 0 v (named .out) (most .0),
           named-exact l room passed N r (near .some) (near .inwards) f nothing c (redStart s c (f c)) v′ v′ (named .back) (most .1),

@@ -1,11 +1,11 @@
--- What the theory asks of a street holds of every street that the checks pass: a signal, every red at least 1 and below the cycle, and inbound times that grow with the distance.
+-- What the theory asks of a street holds of every street that the checks pass: a signal, every red below the cycle, and inbound times that grow with the distance.
 -- Assumes nothing.
 use Prim.Native.Nat.{ℕ, _-_, _<_}
 use mathlib.Core.Path.{_≡_}
 use native.Mathlib.Omega.{arith}
 use Rattle.circle.proofs.Formulas.{Fit}
-use Rattle.circle.proofs.Stretches.{Stops, Rising}
-use Rattle.circle.proofs.Bands.{scaled, fit-scaled, stops-scaled, rising-scaled, Bounded, bound}
+use Rattle.circle.proofs.Stretches.{Rising}
+use Rattle.circle.proofs.Bands.{scaled, fit-scaled, rising-scaled, Bounded, bound}
 use Rattle.circle.proofs.Numbers.{sum-rises}
 use Rattle.road.specs.Times.{linkTicks}
 use Rattle.street.specs.Lists.{Lists, signals}
@@ -21,19 +21,16 @@ module _ (l : Lists) (room : ℕ) (passed : planChecks l room ≡ Passed) where
       record {
         some = ok .counts .least;
         turns = omega (arith, ok .cycle .low);
-        goes = λ k h. omega (arith, ok .reds k h .high, ok .cycle .low);
+        goes = λ k h. omega (arith, ok .reds k h, ok .cycle .low);
       }
-
-  stops : Stops (timed l)
-  stops = λ k h. in-limits l room passed .reds k h .low
 
   pub rising : Rising (timed l)
   rising j h = sum-rises (linkTicks (l .distances) (l .inbound)) (signals l - 1) j (omega arith)
 
-  -- two bands make 2B at most, in halves and in finer units: the one place where each red has to be above 0
+  -- two bands make 2B at most, in halves and in finer units
   pub bounded : Bounded (timed l)
-  bounded = bound (timed l) fit stops rising
+  bounded = bound (timed l) fit rising
 
   pub bounded-fine : (N : ℕ) → 0 < N → Bounded (scaled N (timed l))
   bounded-fine N fine =
-      bound (scaled N (timed l)) (fit-scaled N (timed l) fine fit) (stops-scaled N (timed l) fine fit stops) (rising-scaled N (timed l) fine fit rising)
+      bound (scaled N (timed l)) (fit-scaled N (timed l) fine fit) (rising-scaled N (timed l) fine fit rising)

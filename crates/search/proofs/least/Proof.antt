@@ -6,7 +6,7 @@ use mathlib.Core.Path.{ap₂, _≡_, refl, sym, ap, _∙_}
 use native.Mathlib.Omega.{arith}
 use lib.IntN.{ℤ, pos}
 use borrow.Author.Needs.{needs}
-use Rattle.circle.specs.Over.{leastBelow}
+use Rattle.circle.specs.Over.{allBelow, overBelow, leastBelow}
 use Rattle.circle.specs.Signed.{leℤ, minℤ}
 use Rattle.circle.proofs.Numbers.{pos-min, least-more}
 use Rattle.search.specs.Steps.{wider}
@@ -15,7 +15,7 @@ use Rattle.search.proofs.least.Tie as tie
 
 -- a number beside the least before it, of the first at least
 least-next : (j : ℕ) (f : ℕ → ℤ) → minℤ (leastBelow (max 1 j) f) (f j) ≡ leastBelow (j + 1) f
-unfolding leastBelow
+unfolding overBelow allBelow
 least-next zero f = go (leℤ (f 0) (f 0))
   where
     go : (t : Bool) → cond t (f 0) (f 0) ≡ f 0
@@ -47,7 +47,7 @@ larger-requires : tie.Need-larger-requires Inv-loop μ-loop
 larger-requires c κs = search needs
 
 loop-holds : tie.Need-loop-holds Inv-loop μ-loop
-unfolding leastBelow
+unfolding overBelow allBelow
 loop-holds c = (search needs, ap pos (c .larger .ensures))
 
 mul-larger : tie.Need-mul-larger Inv-loop μ-loop

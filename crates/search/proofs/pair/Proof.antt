@@ -1,5 +1,7 @@
--- `search::pair` meets its contract: the second remainder goes on from the first, and both lie on the cycle, so that no difference wraps. Assumes nothing.
-use Prim.Native.Nat.{_*_, _<_}
+-- `search::pair` meets its contract: the second remainder goes on from the first, and both lie on the cycle. Assumes nothing.
+use Prim.Native.Nat.{ℕ, _*_, _<_}
+use mathlib.Core.List.{[], _∷_}
+use mathlib.Core.Path.{ap₂, _∙_}
 use native.Mathlib.Omega.{arith}
 use lib.IntN.{pos, _-ℤ_}
 use borrow.Author.Needs.{needs}
@@ -28,49 +30,20 @@ back-requires c κs = search needs
 back-requires-2 : tie.Need-back-requires-2
 back-requires-2 c κs = omega (arith, even-lt c)
 
-mul-t8 : tie.Need-mul-t8
-mul-t8 c = search needs
+leaves-requires : tie.Need-leaves-requires
+leaves-requires c κs = omega (arith, even-lt (c .before))
 
-sub-t9 : tie.Need-sub-t9
-sub-t9 c = omega (arith, even-lt (c .before))
-
-mul-t10 : tie.Need-mul-t10
-mul-t10 c = search needs
-
-sub-t11 : tie.Need-sub-t11
-sub-t11 c = omega (arith, even-lt (c .before))
-
-mul-t12 : tie.Need-mul-t12
-mul-t12 c = search needs
-
-sub-t13 : tie.Need-sub-t13
-sub-t13 c = omega (arith, odd-lt c)
-
-mul-t14 : tie.Need-mul-t14
-mul-t14 c = search needs
-
-sub-t15 : tie.Need-sub-t15
-sub-t15 c = omega (arith, odd-lt c)
+leaves-requires-2 : tie.Need-leaves-requires-2
+leaves-requires-2 c κs = omega (arith, odd-lt (c .before))
 
 returns : tie.Need-returns
 returns c =
-    let c0 = c .before .before in
+    let c0 = c .before .before .before .before in
     let a = c0 .args in
-    pair-is (a .cycle) (a .from) (a .to) (a .red) (c .before .back .result) (c .back2 .result) (c0 .pre .0) (c .before .back .ensures) (c .back2 .ensures)
+    let even = c .before .before .before .back in
+    let odd = c .before .before .back2 in
+    ap₂ (λ (x y : ℕ). x ∷ y ∷ []) (c .before .leaves .ensures) (c .leaves2 .ensures)
+    ∙ pair-is (a .cycle) (a .from) (a .to) (a .red) (even .result) (odd .result) (c0 .pre .0) (even .ensures) (odd .ensures)
 
 pub pair-spec : {M : Type 1} → statement M
-pair-spec =
-    tie.close
-    (tie.spec
-    mul-h
-    back-requires
-    back-requires-2
-    mul-t8
-    sub-t9
-    mul-t10
-    sub-t11
-    mul-t12
-    sub-t13
-    mul-t14
-    sub-t15
-    returns)
+pair-spec = tie.close (tie.spec mul-h back-requires back-requires-2 leaves-requires leaves-requires-2 returns)

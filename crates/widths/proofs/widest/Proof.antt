@@ -6,7 +6,7 @@ use lib.IntN.{ℤ, pos, _-ℤ_}
 use lib.ListN.{getD}
 use borrow.Author.Needs.{needs}
 use Rattle.circle.specs.Signed.{minℤ}
-use Rattle.circle.specs.Over.{leastBelow}
+use Rattle.circle.specs.Over.{allBelow, overBelow, leastBelow}
 use Rattle.circle.specs.Moved.{g}
 use Rattle.circle.proofs.Numbers.{pos-less, pos-min, least-more}
 use Rattle.street.specs.declared.Street.{Street}
@@ -35,7 +35,7 @@ sub-low : tie.Need-sub-low Inv-loop μ-loop
 sub-low c = omega (arith, c .before .pre .goes 0 (c .before .pre .some))
 
 loop-holds : tie.Need-loop-holds Inv-loop μ-loop
-unfolding leastBelow
+unfolding overBelow allBelow
 loop-holds c =
     let s = c .before .args .t1 in
     (omega arith, c .before .pre .some, pos-less (2 * s .cycle) (2 * getD (s .reds) 0 0) (omega (arith, c .before .pre .goes 0 (c .before .pre .some))))

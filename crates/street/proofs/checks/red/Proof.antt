@@ -1,4 +1,4 @@
--- `street::checks::red` meets its contract. The loop's invariant: no red before `i` is out of range. So the red that stops it is the first fault, and at the
+-- `street::checks::red` meets its contract. The loop's invariant: no red before `i` is too long. So the red that ends it is the first fault, and at the
 -- end there is none. The measure is what is left of the list. Assumes nothing.
 use Prim.Native.Nat.{ℕ, _-_, _≤_, _<_}
 use mathlib.Core.Bool.{false}
@@ -7,6 +7,7 @@ use native.Mathlib.Omega.{arith}
 use lib.ListN.{length}
 use borrow.Author.Count.{below-none, below-more}
 use borrow.Author.Needs.{needs}
+use borrow.Author.Tests.{lt-ltb, le-ltb}
 use Rattle.circle.proofs.Numbers.{first-at, first-nowhere}
 use Rattle.street.specs.declared.Code.the-variants.{Red}
 use Rattle.street.specs.Checks.{redCheck, faultAt, badRed}
@@ -22,17 +23,14 @@ abbrev μ-loop : tie.MeasureT-loop
 loop-holds : tie.Need-loop-holds Inv-loop μ-loop
 loop-holds c = (search needs, below-none _)
 
-sub-outside : tie.Need-sub-outside Inv-loop μ-loop
-sub-outside c = search needs
+sub-if1 : tie.Need-sub-if1 Inv-loop μ-loop
+sub-if1 c = search needs
 
-mul-outside : tie.Need-mul-outside Inv-loop μ-loop
-mul-outside c = search needs
+mul-if1 : tie.Need-mul-if1 Inv-loop μ-loop
+mul-if1 c = search needs
 
-shared-slice-read-outside : tie.Need-shared-slice-read-outside Inv-loop μ-loop
-shared-slice-read-outside c = search needs
-
-outside-requires : tie.Need-outside-requires Inv-loop μ-loop
-outside-requires c κs = search needs
+shared-slice-read-if1 : tie.Need-shared-slice-read-if1 Inv-loop μ-loop
+shared-slice-read-if1 c = search needs
 
 add-refused : tie.Need-add-refused Inv-loop μ-loop
 add-refused c = search needs
@@ -45,7 +43,10 @@ refused-requires c κs = search needs
 
 returns : tie.Need-returns Inv-loop μ-loop
 unfolding redCheck
-returns c = c .refused .ensures ∙ sym (ap (faultAt Red) (first-at _ _ _ (c .before .before .before .before .loop-test .taken) (c .before .before .before .before .before .loop .inv .1) (sym (c .before .before .outside .ensures) ∙ c .before .if1 .taken)))
+returns c =
+    let at = c .before .before .before .before .loop in
+    let here = first-at _ _ _ (c .before .before .before .loop-test .taken) (at .inv .1) (lt-ltb _ _ (c .before .if1 .taken)) in
+    c .refused .ensures ∙ sym (ap (faultAt Red) here)
 
 add-i : tie.Need-add-i Inv-loop μ-loop
 add-i c = search needs
@@ -54,7 +55,7 @@ loop-less : tie.Need-loop-less Inv-loop μ-loop
 loop-less c = search needs
 
 loop-again : tie.Need-loop-again Inv-loop μ-loop
-loop-again c = (search needs, below-more _ _ (c .before .before .before .before .loop .inv .1) (sym (c .before .outside .ensures) ∙ c .if1 .left))
+loop-again c = (search needs, below-more _ _ (c .before .before .before .loop .inv .1) (le-ltb _ _ (c .if1 .left)))
 
 returns-2 : tie.Need-returns-2 Inv-loop μ-loop
 unfolding redCheck
@@ -67,10 +68,9 @@ red-spec =
     Inv-loop
     μ-loop
     loop-holds
-    sub-outside
-    mul-outside
-    shared-slice-read-outside
-    outside-requires
+    sub-if1
+    mul-if1
+    shared-slice-read-if1
     add-refused
     cast-refused
     refused-requires
