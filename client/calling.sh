@@ -6,7 +6,7 @@
 # there; these two are then named and not run, and of their text it is seen that it compiles.
 
 blocks=(street.txt street.c c.sh pkg-config.sh street.cc cpp.sh street.rs rust.sh shared.sh street.py python.sh
-    sheet.txt sheet.c sheet.sh survey.txt survey.c survey.sh)
+    sheet.txt sheet.c sheet.sh survey.txt survey.c survey.sh seconds.txt seconds.c seconds.sh)
 
 take_out() {
     local block
@@ -148,4 +148,6 @@ run_page() {
     if can cc; then by_page 'C that writes a sheet' sheet.sh; else by_way 'C that writes a sheet' sheet.c -x c -std=c99; fi
     text=survey.txt
     if can cc; then by_page 'C that reads a survey' survey.sh; else by_way 'C that reads a survey' survey.c -x c -std=c99; fi
+    text=seconds.txt
+    if can cc; then by_page 'C that asks for seconds' seconds.sh; else by_way 'C that asks for seconds' seconds.c -x c -std=c99; fi
 }

@@ -2,21 +2,22 @@
  * A client of include/corbatan.h. It reads a street sheet from a file, plans it over a lent list that it has filled
  * with a pattern, prints the reply and the whole list, and measures the offsets of a plan.
  *
- *     client SHEET [room N | outbound WIDTH | inbound WIDTH | platoons P Q]
- *     client SHEET volumes V W HEADWAY
+ *     client SHEET [seconds] [room N | outbound WIDTH | inbound WIDTH | platoons P Q]
+ *     client SHEET [seconds] volumes V W HEADWAY
  *     client SHEET write [N]
  *     client SHEET print|numbers|unequal
  *     client ROWS survey CYCLE [room N]
  *     client empty
  *
  * Without a word after the sheet, or with `room`, it is the equal plan. `volumes` prints the largest volumes after the
- * reply. `write` writes the sheet again into a lent list of N bytes, two more than any sheet needs where N is not said,
- * prints the reply and all bytes of the list, and tells whether what was written reads back as the same numbers.
- * `print` shows the printed plan and `numbers` what the reader read. `survey` reads at most 64 rows from its file, each
- * on a line with the number of its kind, its position, outbound and inbound speed, each as the 16 hexadecimal digits of
- * any float's bits, and its red; it shows what the rows came to, and the equal plan of that. `unequal` hands over lists
- * whose lengths do not fit, and `empty` hands null pointers and counts of 0 to every call. Exit status: 0, or 2 where
- * the words or the file are no good; a refusal is an answer.
+ * reply. With `seconds` the plan is one in whole seconds, which has no largest volumes, and the offsets that cabinets
+ * keep by these are measured. `write` writes the sheet again into a lent list of N bytes, two more than any sheet needs
+ * where N is not said, prints the reply and all bytes of the list, and tells whether what was written reads back as the
+ * same numbers. `print` shows the printed plan and `numbers` what the reader read. `survey` reads at most 64 rows from
+ * its file, each on a line with the number of its kind, its position, outbound and inbound speed, each as the 16
+ * hexadecimal digits of any float's bits, and its red; it shows what the rows came to, and the equal plan of that.
+ * `unequal` hands over lists whose lengths do not fit, and `empty` hands null pointers and counts of 0 to every call.
+ * Exit status: 0, or 2 where the words or the file are no good; a refusal is an answer.
  */
 #include "corbatan.h"
 
@@ -25,7 +26,7 @@
 #include <stdlib.h>
 #include <string.h>
 
-/* No offset is as large as the pattern, so an entry that was written shows. */
+/* No offset and no second is as large as the pattern, so an entry that was written shows. */
 #define PATTERN 77777u
 #define MAX_ROOM 64
 
@@ -159,6 +160,20 @@ static void show_planned_volumes(const CorbatanSheet *s, CorbatanVolumes v, size
     show_lent(s, v.plan, room);
 }
 
+/* Shows a plan in seconds and the list after it, and measures the offsets that the cabinets keep: the middle of a red
+   lies as many halves before the start of green as the red has ticks. */
+static void show_seconds(const CorbatanSheet *s, CorbatanPlan p, size_t room)
+{
+    uint32_t kept[CORBATAN_MAX_SIGNALS];
+    show_plan(p);
+    show_list("list", lent, room);
+    if (p.code != CORBATAN_OK)
+        return;
+    for (size_t i = 0; i < s->signals; i++)
+        kept[i] = (20 * lent[i] + 2 * s->cycle - s->reds[i]) % (2 * s->cycle);
+    show_measure(corbatan_measure(STREET(*s, s->signals, s->signals - 1), kept, s->signals));
+}
+
 static int same_numbers(const CorbatanSheet *a, const CorbatanSheet *b)
 {
     return a->code == b->code && a->signals == b->signals && a->cycle == b->cycle &&
@@ -179,10 +194,11 @@ static void write_again(const CorbatanSheet *s, size_t room)
     }
 }
 
-/* A distance too few, an outbound speed too many, an inbound speed too many, an offset too many, and then as many as
-   there should be, which still are the pattern and so too large. Then a sheet with a distance too few, over as many
-   bytes as there are signals: that is too little room as well, which would be named last. Last a survey of rows with
-   nothing in them, each list in turn too short or too long, and then all as long as they should be. */
+/* A distance too few, an outbound speed too many, an inbound speed too many, and all three again in seconds; an offset
+   too many, and then as many as there should be, which still are the pattern and so too large. Then a sheet with a
+   distance too few, over as many bytes as there are signals: that is too little room as well, which would be named last.
+   Last a survey of rows with nothing in them, each list in turn too short or too long, and then all as long as they
+   should be. */
 static void unequal(const CorbatanSheet *s)
 {
     const uint32_t *r = s->reds, *d = s->distances, *o = s->outbound, *i = s->inbound;
@@ -191,6 +207,9 @@ static void unequal(const CorbatanSheet *s)
     show_plan(corbatan_equal(s->cycle, r, n, d, n - 1, o, links, i, links, offsets, n));
     show_plan(corbatan_inbound(s->cycle, r, n, d, n, o, n, i, links, 80, offsets, n));
     show_plan(corbatan_outbound(s->cycle, r, n, d, n, o, links, i, n, 80, offsets, n));
+    show_plan(corbatan_equal_seconds(s->cycle, r, n, d, n - 1, o, links, i, links, offsets, n));
+    show_plan(corbatan_inbound_seconds(s->cycle, r, n, d, n, o, n, i, links, 80, offsets, n));
+    show_plan(corbatan_outbound_seconds(s->cycle, r, n, d, n, o, links, i, n, 80, offsets, n));
     show_list("list", lent, n);
     show_measure(corbatan_measure(STREET(*s, n, links), lent, n + 1));
     show_measure(corbatan_measure(STREET(*s, n, links), lent, n));
@@ -212,6 +231,11 @@ static void empty(void)
     show_plan(corbatan_inbound(600, NULL, 0, NULL, 0, NULL, 0, NULL, 0, 80, NULL, 0));
     show_plan(corbatan_platoons(600, NULL, 0, NULL, 0, NULL, 0, NULL, 0, 30, 10, NULL, 0));
     show_volumes(corbatan_volumes(600, NULL, 0, NULL, 0, NULL, 0, NULL, 0, 800, 300, 20, NULL, 0));
+    show_plan(corbatan_equal_seconds(600, NULL, 0, NULL, 0, NULL, 0, NULL, 0, NULL, 0));
+    show_plan(corbatan_outbound_seconds(600, NULL, 0, NULL, 0, NULL, 0, NULL, 0, 80, NULL, 0));
+    show_plan(corbatan_inbound_seconds(600, NULL, 0, NULL, 0, NULL, 0, NULL, 0, 80, NULL, 0));
+    show_plan(corbatan_platoons_seconds(600, NULL, 0, NULL, 0, NULL, 0, NULL, 0, 30, 10, NULL, 0));
+    show_plan(corbatan_volumes_seconds(600, NULL, 0, NULL, 0, NULL, 0, NULL, 0, 800, 300, 20, NULL, 0));
     show_measure(corbatan_measure(600, NULL, 0, NULL, 0, NULL, 0, NULL, 0, NULL, 0));
     show_writing(corbatan_write(600, NULL, 0, NULL, 0, NULL, 0, NULL, 0, NULL, 0), 0);
     show_head(corbatan_survey(600, NULL, 0, NULL, 0, NULL, 0, NULL, 0, NULL, 0));
@@ -219,8 +243,8 @@ static void empty(void)
 
 static int usage(void)
 {
-    fprintf(stderr, "usage: client SHEET [room N | outbound WIDTH | inbound WIDTH | platoons P Q]\n");
-    fprintf(stderr, "       client SHEET volumes V W HEADWAY\n");
+    fprintf(stderr, "usage: client SHEET [seconds] [room N | outbound WIDTH | inbound WIDTH | platoons P Q]\n");
+    fprintf(stderr, "       client SHEET [seconds] volumes V W HEADWAY\n");
     fprintf(stderr, "       client SHEET write [N]\n");
     fprintf(stderr, "       client SHEET print|numbers|unequal\n");
     fprintf(stderr, "       client ROWS survey CYCLE [room N]\n");
@@ -273,33 +297,72 @@ static int surveyed(char *text, int words, char **word)
     return 0;
 }
 
+/* Whether so many words were given, and this one first. */
+static int are(int words, char **word, int count, const char *first)
+{
+    return words == count && strcmp(word[0], first) == 0;
+}
+
+/* The number of a word, or 0 where there are not so many. */
+static uint32_t number(int words, char **word, int k)
+{
+    return words > k ? (uint32_t)strtoul(word[k], NULL, 10) : 0;
+}
+
+/* How many entries are lent for a plan: by the word `room`, or one more than there are signals. */
+static size_t lent_for(const CorbatanSheet *s, int words, char **word)
+{
+    return are(words, word, 2, "room") ? number(words, word, 1) : s->signals + 1;
+}
+
+/* The calls for seconds, by the words after `seconds`. */
+static int in_seconds(const CorbatanSheet *s, int words, char **word)
+{
+    size_t n = s->signals, links = n - 1, room = lent_for(s, words, word);
+    uint32_t first = number(words, word, 1), second = number(words, word, 2), third = number(words, word, 3);
+    if (room > MAX_ROOM)
+        return usage();
+    uint32_t *seconds = fill(room);
+    if (words == 0 || are(words, word, 2, "room"))
+        show_seconds(s, corbatan_equal_seconds(STREET(*s, n, links), seconds, room), room);
+    else if (are(words, word, 2, "outbound"))
+        show_seconds(s, corbatan_outbound_seconds(STREET(*s, n, links), first, seconds, room), room);
+    else if (are(words, word, 2, "inbound"))
+        show_seconds(s, corbatan_inbound_seconds(STREET(*s, n, links), first, seconds, room), room);
+    else if (are(words, word, 3, "platoons"))
+        show_seconds(s, corbatan_platoons_seconds(STREET(*s, n, links), first, second, seconds, room), room);
+    else if (are(words, word, 4, "volumes"))
+        show_seconds(s, corbatan_volumes_seconds(STREET(*s, n, links), first, second, third, seconds, room), room);
+    else
+        return usage();
+    return 0;
+}
+
 /* The calls on a sheet that was read, by the words after its name. */
 static int asked(const CorbatanSheet *s, int words, char **word)
 {
-    size_t n = s->signals, links = n - 1, room = n + 1;
-    uint32_t first = words > 1 ? (uint32_t)strtoul(word[1], NULL, 10) : 0;
-    uint32_t second = words > 2 ? (uint32_t)strtoul(word[2], NULL, 10) : 0;
-    uint32_t third = words > 3 ? (uint32_t)strtoul(word[3], NULL, 10) : 0;
-    if (words == 2 && strcmp(word[0], "room") == 0)
-        room = first;
+    size_t n = s->signals, links = n - 1, room = lent_for(s, words, word);
+    uint32_t first = number(words, word, 1), second = number(words, word, 2), third = number(words, word, 3);
+    if (words > 0 && strcmp(word[0], "seconds") == 0)
+        return in_seconds(s, words - 1, word + 1);
     if (room > MAX_ROOM)
         return usage();
     uint32_t *offsets = fill(room);
-    if (words == 0 || (words == 2 && strcmp(word[0], "room") == 0))
+    if (words == 0 || are(words, word, 2, "room"))
         show_planned(s, corbatan_equal(STREET(*s, n, links), offsets, room), room);
-    else if (words == 2 && strcmp(word[0], "outbound") == 0)
+    else if (are(words, word, 2, "outbound"))
         show_planned(s, corbatan_outbound(STREET(*s, n, links), first, offsets, room), room);
-    else if (words == 2 && strcmp(word[0], "inbound") == 0)
+    else if (are(words, word, 2, "inbound"))
         show_planned(s, corbatan_inbound(STREET(*s, n, links), first, offsets, room), room);
-    else if (words == 3 && strcmp(word[0], "platoons") == 0)
+    else if (are(words, word, 3, "platoons"))
         show_planned(s, corbatan_platoons(STREET(*s, n, links), first, second, offsets, room), room);
-    else if (words == 4 && strcmp(word[0], "volumes") == 0)
+    else if (are(words, word, 4, "volumes"))
         show_planned_volumes(s, corbatan_volumes(STREET(*s, n, links), first, second, third, offsets, room), room);
-    else if (words == 1 && strcmp(word[0], "write") == 0)
+    else if (are(words, word, 1, "write"))
         write_again(s, MAX_BYTES);
-    else if (words == 2 && strcmp(word[0], "write") == 0 && first <= MAX_BYTES)
+    else if (are(words, word, 2, "write") && first <= MAX_BYTES)
         write_again(s, first);
-    else if (words == 1 && strcmp(word[0], "unequal") == 0)
+    else if (are(words, word, 1, "unequal"))
         unequal(s);
     else
         return usage();

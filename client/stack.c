@@ -50,6 +50,11 @@ static void call_outbound(void) { plan = corbatan_outbound(STREET, first, lent, 
 static void call_inbound(void) { plan = corbatan_inbound(STREET, first, lent, room); }
 static void call_platoons(void) { plan = corbatan_platoons(STREET, first, second, lent, room); }
 static void call_volumes(void) { volumes = corbatan_volumes(STREET, first, second, headway, lent, room); }
+static void call_equal_seconds(void) { plan = corbatan_equal_seconds(STREET, lent, room); }
+static void call_outbound_seconds(void) { plan = corbatan_outbound_seconds(STREET, first, lent, room); }
+static void call_inbound_seconds(void) { plan = corbatan_inbound_seconds(STREET, first, lent, room); }
+static void call_platoons_seconds(void) { plan = corbatan_platoons_seconds(STREET, first, second, lent, room); }
+static void call_volumes_seconds(void) { plan = corbatan_volumes_seconds(STREET, first, second, headway, lent, room); }
 static void call_measure(void) { measure = corbatan_measure(STREET, offsets, signals); }
 
 static struct {
@@ -66,6 +71,11 @@ static struct {
     {"corbatan_inbound", call_inbound, 0},
     {"corbatan_platoons", call_platoons, 0},
     {"corbatan_volumes", call_volumes, 0},
+    {"corbatan_equal_seconds", call_equal_seconds, 0},
+    {"corbatan_outbound_seconds", call_outbound_seconds, 0},
+    {"corbatan_inbound_seconds", call_inbound_seconds, 0},
+    {"corbatan_platoons_seconds", call_platoons_seconds, 0},
+    {"corbatan_volumes_seconds", call_volumes_seconds, 0},
     {"corbatan_measure", call_measure, 0},
 };
 #define CALLS (sizeof calls / sizeof calls[0])
@@ -118,13 +128,13 @@ static uint32_t below(uint32_t bound)
 }
 
 /* Sets a street of n signals, with the greatest numbers that the rules allow or with random ones, and as many rows of a
-   survey, which are those of another street. */
+   survey, which are those of another street. Its cycle is a whole number of seconds, so that every call plans it. */
 static void set_street(size_t n, int greatest)
 {
     signals = room = n;
     links = n - 1;
     bytes_room = sizeof lent_bytes;
-    cycle = greatest ? 6000 : 10 + below(5991);
+    cycle = greatest ? 6000 : 10 * (1 + below(600));
     headway = greatest ? 100 : 20;
     for (size_t i = 0; i < n; i++) {
         reds[i] = greatest ? 5999 : 1 + below(cycle - 1);
@@ -211,6 +221,7 @@ static void measure_refusals(void)
     measure_with(&headway, 0);
     measure_with(&headway, 101);
     measure_with(&cycle, 6001);
+    measure_with(&cycle, 5999);
     for (size_t i = 0; i < signals; i += signals - 1) {
         measure_with(&reds[i], cycle);
         measure_with(&distances[i], 20000001);

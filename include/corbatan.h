@@ -10,8 +10,9 @@
  * Units. A tick is a tenth of a second, a half is half a tick. Cycles and reds
  * are in ticks, distances in mm, speeds in mm/s; offsets, widths, instants and
  * platoons are in halves. Volumes are in vehicles an hour, a headway is in
- * ticks. H is the cycle in halves, twice its ticks. A survey's rows alone have
- * metres and metres a second, as 64-bit floats.
+ * ticks. H is the cycle in halves, twice its ticks. A cabinet's starts of green
+ * alone are in whole seconds, 20 halves each. A survey's rows alone have metres
+ * and metres a second, as 64-bit floats.
  *
  * Lists. A list is a pointer and a count of entries, not of bytes.
  *
@@ -19,9 +20,9 @@
  *   - a pointer is aligned for its entries and has as many of them behind it
  *     as its count says, none of which changes during the call;
  *   - a null pointer is allowed where the count is 0;
- *   - a lent list, the `offsets` of a plan or the `bytes` that corbatan_write
- *     is to fill, can be written and overlaps no input; inputs may overlap one
- *     another, or be the same list.
+ *   - a lent list, the `offsets` or the `seconds` of a plan or the `bytes` that
+ *     corbatan_write is to fill, can be written and overlaps no input; inputs
+ *     may overlap one another, or be the same list.
  *
  * What a caller gets: every call returns, whatever the counts and the numbers
  * are, and whatever the bits of a float. Numbers that make no street are
@@ -53,8 +54,8 @@
 
 /* The version of this interface: the major number changes when a program that uses it has to change. */
 #define CORBATAN_VERSION_MAJOR 1
-#define CORBATAN_VERSION_MINOR 6
-#define CORBATAN_VERSION "1.6"
+#define CORBATAN_VERSION_MINOR 7
+#define CORBATAN_VERSION "1.7"
 
 /* How many signals a street can have, and so how long the lists in a CorbatanSheet are. */
 #define CORBATAN_MAX_SIGNALS 32
@@ -71,23 +72,24 @@
 
 /*
  * How many bytes of stack are enough for any of the calls, with its arguments and its reply. client/stack.c measures
- * what they take, on streets of up to 32 signals, on requests and on refusals: corbatan_print 12,712,
- * corbatan_volumes 10,184, any other plan at most 10,136, corbatan_survey 4,136, corbatan_measure 2,168, corbatan_read
- * 1,328, corbatan_write 1,072; another kit may give a few bytes more or less. The rest is room, as for the dynamic
+ * what they take, on streets of up to 32 signals, on requests and on refusals: corbatan_print 12,712, the calls for
+ * seconds at most 10,312, any other plan at most 10,136, corbatan_survey 4,152, corbatan_measure 2,168, corbatan_read
+ * 1,344, corbatan_write 1,072; another kit may give a few bytes more or less. The rest is room, as for the dynamic
  * linker, which takes some 2,000 bytes of the caller's stack where it binds memcpy or memset at their first use.
  */
 #define CORBATAN_STACK 20480
 
 /*
  * What `code` says, and what `place` then names, counted from 1. Of a street's faults the one with the smallest code
- * is given, at its first place, except that corbatan_volumes gives code 11 before code 8, and corbatan_write code 3
- * last of all; of a sheet's the first that reading comes to. A survey's code 12 comes directly after 2: corbatan_survey
- * gives no other, and a call that plans its numbers judges them from 3 on.
+ * is given, at its first place, except that the calls that take volumes give code 11 before code 8, and corbatan_write
+ * code 3 last of all; of a sheet's the first that reading comes to. Code 13 comes directly after 4, before 5, and from the
+ * five calls for seconds alone. A survey's code 12 comes directly after 2: corbatan_survey gives no other, and a call that
+ * plans its numbers judges them from 3 on.
  */
 #define CORBATAN_OK 0       /* Nothing was refused; place 0. */
 #define CORBATAN_SHEET 1    /* The bytes are not formed as a sheet; place 0. */
 #define CORBATAN_COUNT 2    /* n is not 1 to 32, or a list's length does not fit n; place 0. */
-#define CORBATAN_ROOM 3     /* The lent list is shorter than what is written: n offsets, or a sheet's bytes; place 0. */
+#define CORBATAN_ROOM 3     /* The lent list is shorter than what is written: n offsets or seconds, or a sheet's bytes; place 0. */
 #define CORBATAN_CYCLE 4    /* The cycle is not 10 to 6,000 ticks; place 0. */
 #define CORBATAN_RED 5      /* A red is not 0 to one tick less than the cycle, up to version 1.5 not 1 tick to that; the signal. */
 #define CORBATAN_DISTANCE 6 /* A distance is above 20,000,000 mm or not above the one before; the signal. */
@@ -97,6 +99,7 @@
 #define CORBATAN_OFFSET 10  /* A measured offset is not below H; the signal. */
 #define CORBATAN_VOLUME 11  /* A volume is above 10,000 or a headway not 1 to 100; 1 outbound, 2 inbound, 3 headway. */
 #define CORBATAN_SURVEY 12  /* A number of a survey's row is outside its rules; the row. */
+#define CORBATAN_SECONDS 13 /* The cycle is in its range and no whole number of seconds, a multiple of 10 ticks; place 0. */
 
 #ifdef __cplusplus
 extern "C" {
@@ -262,6 +265,68 @@ CorbatanVolumes corbatan_volumes(
     const uint32_t *inbound, size_t inbound_count,
     uint32_t outbound_volume, uint32_t inbound_volume, uint32_t headway,
     uint32_t *offsets, size_t offsets_count);
+
+/*
+ * Plans as corbatan_equal does, for cabinets that take the start of each green in whole seconds. Each of the five calls
+ * for seconds takes what the plan of its kind takes, and lends a list of n entries or more for the seconds in place of
+ * the offsets. The cycle has to be a whole number of seconds. An entry is the instant at which the signal's green starts,
+ * as many halves after its offset as its red has ticks, round the cycle, rounded to the nearest second and up where it is
+ * half-way, so that H - 10 becomes 0: from 0 to one less than the seconds of the cycle. The reply is the plan's own, with
+ * the widths and instants of the offsets, which are not written. The cabinets then keep others: 20 halves for each second,
+ * less as many halves as the red has ticks. Under these a departure of a named band still meets no red that is at least 10
+ * halves after its start and more than 9 before its end, and each direction's band is at most 19 halves narrower than
+ * reported. At exact travel times both distances are `rounded` halves more, and the band may be as many narrower still.
+ */
+CorbatanPlan corbatan_equal_seconds(
+    uint32_t cycle,
+    const uint32_t *reds, size_t reds_count,
+    const uint32_t *distances, size_t distances_count,
+    const uint32_t *outbound, size_t outbound_count,
+    const uint32_t *inbound, size_t inbound_count,
+    uint32_t *seconds, size_t seconds_count);
+
+/* Plans as corbatan_outbound does, for cabinets. */
+CorbatanPlan corbatan_outbound_seconds(
+    uint32_t cycle,
+    const uint32_t *reds, size_t reds_count,
+    const uint32_t *distances, size_t distances_count,
+    const uint32_t *outbound, size_t outbound_count,
+    const uint32_t *inbound, size_t inbound_count,
+    uint32_t width,
+    uint32_t *seconds, size_t seconds_count);
+
+/* Plans as corbatan_inbound does, for cabinets. */
+CorbatanPlan corbatan_inbound_seconds(
+    uint32_t cycle,
+    const uint32_t *reds, size_t reds_count,
+    const uint32_t *distances, size_t distances_count,
+    const uint32_t *outbound, size_t outbound_count,
+    const uint32_t *inbound, size_t inbound_count,
+    uint32_t width,
+    uint32_t *seconds, size_t seconds_count);
+
+/* Plans as corbatan_platoons does, for cabinets. */
+CorbatanPlan corbatan_platoons_seconds(
+    uint32_t cycle,
+    const uint32_t *reds, size_t reds_count,
+    const uint32_t *distances, size_t distances_count,
+    const uint32_t *outbound, size_t outbound_count,
+    const uint32_t *inbound, size_t inbound_count,
+    uint32_t outbound_platoon, uint32_t inbound_platoon,
+    uint32_t *seconds, size_t seconds_count);
+
+/*
+ * Plans as corbatan_volumes does, for cabinets. It names no largest volumes: those fit the reported widths, and the bands
+ * that the cabinets keep may be narrower.
+ */
+CorbatanPlan corbatan_volumes_seconds(
+    uint32_t cycle,
+    const uint32_t *reds, size_t reds_count,
+    const uint32_t *distances, size_t distances_count,
+    const uint32_t *outbound, size_t outbound_count,
+    const uint32_t *inbound, size_t inbound_count,
+    uint32_t outbound_volume, uint32_t inbound_volume, uint32_t headway,
+    uint32_t *seconds, size_t seconds_count);
 
 /* Measures n offsets in halves, which are an input like the other lists and are not written. */
 CorbatanMeasure corbatan_measure(

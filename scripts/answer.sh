@@ -108,7 +108,7 @@ conclude() { # REQUEST
         say "$(look "$code" "$place" "$1")"
         case $code$1 in
         *survey*) say "docs/RULES.md says what the rows of a survey may have, and docs/EXAMPLES.md shows some." ;;
-        [1-7][!0-9]*) say "docs/SHEETS.md shows what gets each code and how to mend it; docs/RULES.md has the form of a sheet in full." ;;
+        [1-7][!0-9]* | 13*) say "docs/SHEETS.md shows what gets each code and how to mend it; docs/RULES.md has the form of a sheet in full." ;;
         *) say "docs/RULES.md says what a request may ask, and docs/EXAMPLES.md shows some." ;;
         esac
         return 1

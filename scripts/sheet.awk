@@ -163,6 +163,13 @@ function red_fault(    row) {
         cycle - 1 " ticks; the cycle on line 2 is " count(cycle, "tick") ", " decimal(cycle, 10) " s"
 }
 
+# A cycle between two whole seconds, of which both are in range.
+function seconds_fault(    below) {
+    below = int(cycle / 10)
+    return "line 2 has " quoted(2) ", and a cycle of " decimal(cycle, 10) " s is no whole number of seconds, as a cabinet needs; " \
+        "type " 10 * below " for " below " s, or " 10 * (below + 1) " for " below + 1 " s"
+}
+
 # The shortest green, in halves, which no band can exceed.
 function green(    k, most) {
     for (k = 1; k <= signals; k++) if (second(3 + k) > most) most = second(3 + k)
@@ -185,7 +192,7 @@ function volume_fault() {
     return "the " way() " volume, " word[1 + place] ", is above 10,000 vehicles an hour"
 }
 
-# The sentence about a code that came from the numbers: those of the sheet, 4 to 7, or those of the request.
+# The sentence about a code that came from the numbers: those of the sheet, 4 to 7 and 13, or those of the request.
 function number_fault() {
     if (code == 4) return "line 2 has " quoted(2) ", and the cycle is not from 10 to 6,000 ticks, tenths of a second"
     if (code == 5) return red_fault()
@@ -198,6 +205,7 @@ function number_fault() {
     if (code == 10)
         return "the offset of signal " place ", " word[1 + place] ", is not below the cycle of " 2 * cycle " halves"
     if (code == 11) return volume_fault()
+    if (code == 13) return seconds_fault()
     return ""
 }
 
@@ -223,6 +231,8 @@ function size(    k, least, most) {
 BEGIN {
     fresh = 1
     lines = bytes = line = own = signals = 0
+    # In seconds a plan is asked for by the same words.
+    sub(/^seconds /, "", request)
     words = split(request, word, " ")
 }
 

@@ -34,6 +34,15 @@ pub fn volumes(random: &mut Random, street: &Street) -> Ask {
     Ask::Volumes(out, back, headway)
 }
 
+/// A request of any kind, about a street that no check refuses.
+pub fn any(random: &mut Random, street: &Street) -> Ask {
+    match random.below(6) {
+        0 => Ask::Equal,
+        1 => volumes(random, street),
+        _ => ask(random, street),
+    }
+}
+
 /// Now and then the words that name the length of the list that is lent for a plan.
 pub fn room(random: &mut Random, street: &Street) -> String {
     if !random.one_in(8) {

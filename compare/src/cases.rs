@@ -1,7 +1,7 @@
 //! The program `cases` as a model: many requests in one input, each with its sheet or its rows, and a reply to each.
 
 use crate::moved::Ask;
-use crate::printed::{asked_prints, measure_prints, survey_prints, write_prints};
+use crate::printed::{asked_prints, measure_prints, seconds_prints, survey_prints, write_prints};
 use crate::street::MAX_SIGNALS;
 use crate::survey::rows;
 
@@ -14,6 +14,7 @@ pub const SHEET_ROOM: usize = 4_096;
 #[derive(Clone, Debug, PartialEq)]
 pub enum Request {
     Plan { ask: Ask, room: usize },
+    Seconds { ask: Ask, room: usize },
     Measure { offsets: Vec<i64> },
     Write { room: usize },
     Survey { cycle: i64, room: usize },
@@ -48,6 +49,12 @@ pub fn ask<'a>(words: &'a [&'a str]) -> Option<(Ask, &'a [&'a str])> {
     }
 }
 
+/// The same, and how long a list is lent for it.
+fn lent_ask(words: &[&str]) -> Option<(Ask, usize)> {
+    let (ask, rest) = ask(words)?;
+    room(rest, MAX_SIGNALS, LARGEST_ROOM).map(|room| (ask, room))
+}
+
 pub fn request(line: &[u8]) -> Option<Request> {
     let words: Vec<&str> = std::str::from_utf8(line).ok()?.split(' ').collect();
     match &words[..] {
@@ -60,10 +67,8 @@ pub fn request(line: &[u8]) -> Option<Request> {
             let (cycle, room) = (number(cycle)?, room(rest, MAX_SIGNALS, LARGEST_ROOM)?);
             Some(Request::Survey { cycle, room })
         }
-        words => {
-            let (ask, rest) = ask(words)?;
-            room(rest, MAX_SIGNALS, LARGEST_ROOM).map(|room| Request::Plan { ask, room })
-        }
+        ["seconds", plan @ ..] => lent_ask(plan).map(|(ask, room)| Request::Seconds { ask, room }),
+        plan => lent_ask(plan).map(|(ask, room)| Request::Plan { ask, room }),
     }
 }
 
@@ -77,6 +82,7 @@ pub fn reply(case: &[u8]) -> String {
     let served = end.and_then(|end| Some((request(&case[..end])?, &case[end + 1..])));
     match served {
         Some((Request::Plan { ask, room }, sheet)) => asked_prints(sheet, ask, room),
+        Some((Request::Seconds { ask, room }, sheet)) => seconds_prints(sheet, ask, room),
         Some((Request::Measure { offsets }, sheet)) => measure_prints(sheet, &offsets),
         Some((Request::Write { room }, sheet)) => write_prints(sheet, room),
         Some((Request::Survey { cycle, room }, lines)) => {

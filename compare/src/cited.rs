@@ -8,9 +8,10 @@ use std::collections::{BTreeMap, BTreeSet};
 use std::path::Path;
 
 /// The functions that a user calls, by their crate; those for C are found by their mark.
-const CALLS: [(&str, &[&str]); 7] = [
+const CALLS: [(&str, &[&str]); 8] = [
     ("plans", &["plan_for", "equal", "outbound", "inbound", "platoons", "volumes"]),
     ("survey", &["read", "read_lists", "plan_for"]),
+    ("cabinets", &["plan_for"]),
     ("bands", &["measure"]),
     ("sheet", &["read"]),
     ("writer", &["write"]),

@@ -6,12 +6,13 @@ use crate::equal::Plan;
 use crate::moved::{plan, Ask};
 use crate::named::named;
 use crate::printed::plan_prints;
+use crate::seconds::{cabinets, kept};
 use crate::sheet::{read, written};
 use crate::street::{refusal, Refusal, Street};
 use crate::survey::{self, numbered_rows, Row, CHAINAGE};
 use crate::volumes::fitting;
 
-/// What the client fills its lent list with; no offset is as large.
+/// What the client fills its lent list with; no offset and no second is as large.
 const PATTERN: i64 = 77_777;
 
 /// What it fills its lent list of bytes with; no sheet has such a byte.
@@ -32,12 +33,25 @@ pub fn prints(words: &[&str], sheet: &[u8]) -> String {
         (["unequal"], Ok(street)) => unequal(&street),
         (["write"], Ok(street)) => written_again(&street, LARGEST_BYTES),
         (["write", room], Ok(street)) => written_again(&street, room.parse().expect("a count of bytes")),
-        (["room", room], Ok(street)) => {
-            planned(&street, Ask::Equal, room.parse().expect("a count of entries"))
+        (["seconds", words @ ..], Ok(street)) => {
+            let (ask, room) = lent_ask(words, &street);
+            in_seconds(&street, ask, room)
         }
-        ([], Ok(street)) => planned(&street, Ask::Equal, street.signals() + 1),
-        (words, Ok(street)) => match ask(words) {
-            Some((ask, [])) => planned(&street, ask, street.signals() + 1),
+        (words, Ok(street)) => {
+            let (ask, room) = lent_ask(words, &street);
+            planned(&street, ask, room)
+        }
+    }
+}
+
+/// The plan that words ask for, and how many entries are lent for it: one more than there are signals, where they do not
+/// say.
+fn lent_ask(words: &[&str], street: &Street) -> (Ask, usize) {
+    match words {
+        ["room", room] => (Ask::Equal, room.parse().expect("a count of entries")),
+        [] => (Ask::Equal, street.signals() + 1),
+        words => match ask(words) {
+            Some((ask, [])) => (ask, street.signals() + 1),
             _ => panic!("the client has no words {words:?}"),
         },
     }
@@ -49,7 +63,8 @@ pub fn empty() -> String {
     let asks =
         [Ask::Equal, Ask::Outbound(80), Ask::Inbound(80), Ask::Platoons(30, 10), Ask::Volumes(800, 300, 20)];
     let plans: String = asks.map(|ask| plan_lines(&none, ask, &plan(&none, ask, 0))).concat();
-    let told = numbers(&read(b"")) + &plan_prints(b"") + &plans + &measure_line(&none, &[]);
+    let in_seconds: String = asks.map(|ask| plan_line(&none, &seconds_plan(&none, ask, 0))).concat();
+    let told = numbers(&read(b"")) + &plan_prints(b"") + &plans + &in_seconds + &measure_line(&none, &[]);
     told + &writing_lines(&none, 0) + &numbers_line(&survey::street(600, &[]))
 }
 
@@ -124,6 +139,20 @@ fn planned(street: &Street, ask: Ask, room: usize) -> String {
     plan_lines(street, ask, &reply) + &list("list", &lent) + &measure
 }
 
+/// The plan of a reply in seconds, which is the plan's own.
+fn seconds_plan(street: &Street, ask: Ask, room: usize) -> Result<Plan, Refusal> {
+    cabinets(street, ask, room).map(|served| served.plan)
+}
+
+/// A plan in seconds, the lent list after it, and the measure of the offsets that the cabinets keep where there are some.
+fn in_seconds(street: &Street, ask: Ask, room: usize) -> String {
+    let reply = cabinets(street, ask, room).map(|served| served.seconds);
+    let mut lent = reply.clone().unwrap_or_default();
+    lent.resize(room, PATTERN);
+    let measure = reply.map_or(String::new(), |seconds| measure_line(street, &kept(street, &seconds)));
+    plan_line(street, &seconds_plan(street, ask, room)) + &list("list", &lent) + &measure
+}
+
 /// What the rows of a file come to at a cycle, and where that is a street its equal plan, over a list with one entry more
 /// than there are rows or as many as the words say.
 fn surveyed(cycle: &str, room: &[&str], text: &[u8]) -> String {
@@ -154,8 +183,8 @@ fn written_again(street: &Street, room: usize) -> String {
     writing_lines(street, room) + told
 }
 
-/// Five calls with a list of another length, one with offsets that are still the pattern, and surveys of rows with nothing
-/// in them but the reds, five of them with a list of another length.
+/// Calls with a list of another length, three of them in seconds too, one with offsets that are still the pattern, and
+/// surveys of rows with nothing in them but the reds, five of them with a list of another length.
 fn unequal(street: &Street) -> String {
     let n = street.signals();
     let (mut distances, mut outbound, mut inbound) = (street.clone(), street.clone(), street.clone());
@@ -164,11 +193,14 @@ fn unequal(street: &Street) -> String {
     inbound.inbound.push(0);
     let writing = writing_lines(&distances, n);
     let refused = [(distances, Ask::Equal), (outbound, Ask::Inbound(80)), (inbound, Ask::Outbound(80))];
-    let plans: String = refused.map(|(street, ask)| plan_line(&street, &plan(&street, ask, n))).concat();
+    let plans: String =
+        refused.iter().map(|(street, ask)| plan_line(street, &plan(street, *ask, n))).collect();
+    let in_seconds: String =
+        refused.iter().map(|(street, ask)| plan_line(street, &seconds_plan(street, *ask, n))).collect();
     let pattern = vec![PATTERN; n + 1];
     let measures = measure_line(street, &pattern) + &measure_line(street, &pattern[..n]);
     let nothing = |&red: &i64| Row { kind: CHAINAGE, floats: [0; 3], red };
     let survey = survey::street(street.cycle, &street.reds.iter().map(nothing).collect::<Vec<Row>>());
     let surveys = numbers_line(&Err(refusal(2, 0))).repeat(5) + &numbers_line(&survey);
-    plans + &list("list", &pattern[..n]) + &measures + &writing + &surveys
+    plans + &in_seconds + &list("list", &pattern[..n]) + &measures + &writing + &surveys
 }

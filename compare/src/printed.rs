@@ -3,6 +3,7 @@
 use crate::bands::{measured, Band};
 use crate::equal::{equal, Plan};
 use crate::moved::{plan, Ask};
+use crate::seconds::{cabinets, Cabinets};
 use crate::sheet::{read, written};
 use crate::street::{Refusal, MAX_SIGNALS};
 use crate::survey::{self, Row};
@@ -10,16 +11,19 @@ use crate::volumes::fitting;
 
 pub fn printed(reply: &Result<Plan, Refusal>) -> String {
     match reply {
-        Ok(plan) => {
-            let Plan { reference, best, outbound, inbound, not_whole, offsets } = plan;
-            let mut text = format!("{reference} {best} {outbound} {inbound} {not_whole}\n");
-            for offset in offsets {
-                text.push_str(&format!("{offset}\n"));
-            }
-            text
-        }
+        Ok(plan) => with_entries(plan, &plan.offsets),
         Err(refusal) => refused(refusal),
     }
+}
+
+/// A plan's numbers on one line, and each entry that was written on a line of its own.
+fn with_entries(plan: &Plan, entries: &[i64]) -> String {
+    let Plan { reference, best, outbound, inbound, not_whole, .. } = plan;
+    let mut text = format!("{reference} {best} {outbound} {inbound} {not_whole}\n");
+    for entry in entries {
+        text.push_str(&format!("{entry}\n"));
+    }
+    text
 }
 
 fn refused(Refusal { code, place }: &Refusal) -> String {
@@ -49,6 +53,14 @@ pub fn asked_prints(sheet: &[u8], ask: Ask, room: usize) -> String {
         text.push_str(&format!("{out} {back}\n"));
     }
     text
+}
+
+/// What a sheet gets for what is asked in whole seconds: the plan's numbers, and each signal's second for its offset.
+pub fn seconds_prints(sheet: &[u8], ask: Ask, room: usize) -> String {
+    match read(sheet).and_then(|street| cabinets(&street, ask, room)) {
+        Ok(Cabinets { plan, seconds }) => with_entries(&plan, &seconds),
+        Err(refusal) => refused(&refusal),
+    }
 }
 
 /// What a sheet gets for offsets to be measured: outbound width and start, inbound width and start.

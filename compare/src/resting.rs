@@ -106,8 +106,8 @@ pub fn taken_out(street: &Street) -> Street {
 }
 
 /// What is asked of streets that rest.
-const WORDS: [&str; 8] =
-    ["equal", "outbound", "inbound", "platoons", "volumes", "measure", "write", "survey"];
+const WORDS: [&str; 9] =
+    ["equal", "outbound", "inbound", "platoons", "volumes", "measure", "write", "survey", "seconds"];
 
 /// How often each of them must have been answered on a street of each kind.
 const EACH: usize = 15;
@@ -157,7 +157,7 @@ fn note(kinds: &mut Tally, tally: &mut Tally, case: &Case) {
     let word = case.request.split(' ').next().expect("a request has a word");
     RESTING.iter().for_each(|&which| kinds.note(&format!("{word} where {which}"), holds(&street, which)));
     match asked {
-        Request::Plan { ask, .. } => note_plan(tally, &street, ask),
+        Request::Plan { ask, .. } | Request::Seconds { ask, .. } => note_plan(tally, &street, ask),
         Request::Survey { .. } => note_plan(tally, &street, Ask::Equal),
         Request::Measure { offsets } => note_measure(tally, &street, &offsets, &text),
         Request::Write { .. } => (),

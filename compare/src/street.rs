@@ -57,18 +57,28 @@ impl Street {
 
     /// The first fault of a plan's input in the order of the codes, with a lent list of `room` entries.
     pub fn fault(&self, room: usize) -> Option<Refusal> {
+        self.opening_fault(room).or_else(|| self.number_fault())
+    }
+
+    /// The first of these faults that lies in a count, in the lent list's length or in the cycle.
+    pub fn opening_fault(&self, room: usize) -> Option<Refusal> {
         self.count_fault()
             .or_else(|| (room < self.signals()).then(|| refusal(3, 0)))
-            .or_else(|| self.range_fault())
+            .or_else(|| self.cycle_fault())
     }
 
     /// The first number outside its range, where the lists have the lengths of a street.
     pub fn range_fault(&self) -> Option<Refusal> {
-        let cycle_fault = outside(self.cycle, CYCLE).then(|| refusal(4, 0));
-        cycle_fault
-            .or_else(|| self.red_fault())
-            .or_else(|| self.distance_fault())
-            .or_else(|| self.speed_fault())
+        self.cycle_fault().or_else(|| self.number_fault())
+    }
+
+    /// The first such number but the cycle.
+    fn number_fault(&self) -> Option<Refusal> {
+        self.red_fault().or_else(|| self.distance_fault()).or_else(|| self.speed_fault())
+    }
+
+    fn cycle_fault(&self) -> Option<Refusal> {
+        outside(self.cycle, CYCLE).then(|| refusal(4, 0))
     }
 
     pub fn count_fault(&self) -> Option<Refusal> {

@@ -2,13 +2,24 @@
 
 use crate::random::Random;
 use crate::resting::{rest, RESTING};
+use crate::seconds::TICKS;
 use crate::street::{Street, CYCLE, MAX_DISTANCE, MAX_SIGNALS, SPEED};
 
 pub fn street(random: &mut Random) -> Street {
+    any(random, |cycle| cycle)
+}
+
+/// Such a street with a cycle of whole seconds, made the longer one where it was drawn between two.
+pub fn in_seconds(random: &mut Random) -> Street {
+    any(random, |cycle| (cycle + TICKS - 1) / TICKS * TICKS)
+}
+
+/// A street whose cycle, once drawn, is fitted to what is wanted of it.
+fn any(random: &mut Random, fit: fn(i64) -> i64) -> Street {
     match random.below(6) {
-        0 => even(random),
-        1 => touching(random),
-        _ => mixed(random),
+        0 => even(random, fit),
+        1 => touching(random, fit),
+        _ => mixed(random, fit),
     }
 }
 
@@ -137,16 +148,16 @@ fn speeds(random: &mut Random, links: usize) -> (Vec<i64>, Vec<i64>) {
     ((0..links).map(|_| speed(one)).collect(), (0..links).map(|_| speed(other)).collect())
 }
 
-fn mixed(random: &mut Random) -> Street {
+fn mixed(random: &mut Random, fit: fn(i64) -> i64) -> Street {
     let n = signals(random);
-    let cycle = cycle(random);
+    let cycle = fit(cycle(random));
     sized(random, n, cycle)
 }
 
 /// The same red and the same link everywhere, so that candidates tie.
-fn even(random: &mut Random) -> Street {
+fn even(random: &mut Random, fit: fn(i64) -> i64) -> Street {
     let n = signals(random);
-    let cycle = cycle(random);
+    let cycle = fit(cycle(random));
     let red = random.within(1, cycle - 1);
     let gap = 100 * random.within(1, 6_000);
     let speed = random.pick(&[1_000, 10_000, 12_500, 40_000]);
@@ -160,9 +171,9 @@ fn even(random: &mut Random) -> Street {
 }
 
 /// Whole times chosen so that neighbours touch: the remainder in u is 0 under one of the phases.
-fn touching(random: &mut Random) -> Street {
+fn touching(random: &mut Random, fit: fn(i64) -> i64) -> Street {
     let n = signals(random);
-    let cycle = random.within(10, 200);
+    let cycle = fit(random.within(10, 200));
     let reds = reds(random, n, cycle);
     let mut street = Street { cycle, reds, distances: vec![0], outbound: vec![], inbound: vec![] };
     for k in 1..n {

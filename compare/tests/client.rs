@@ -2,10 +2,10 @@
 //! docs/SHEETS.md, on the sample sheets with requests at the ends of their ranges, on random sheets, and on random rows of
 //! surveys with any kinds and any bits.
 
-use compare::asks::{ask, volumes};
+use compare::asks::{any, ask, volumes};
 use compare::client::{empty, prints, LARGEST_BYTES, LARGEST_ROOM};
 use compare::equal::Pairs;
-use compare::moved::{shortest_green, MAX_PLATOON};
+use compare::moved::{shortest_green, Ask, MAX_PLATOON};
 use compare::page::{Page, Sample};
 use compare::random::Random;
 use compare::resting::{holds, rest, Resting, RESTING};
@@ -22,7 +22,8 @@ use std::fs;
 use std::path::PathBuf;
 
 const SEED: u64 = 1_966;
-const RANDOM: u64 = 200;
+const RANDOM: u64 = 300;
+const SURVEYS: u64 = 400;
 
 /// One start of the client: the file that it opens, that file's bytes, and the words after its name.
 struct Run {
@@ -59,10 +60,21 @@ fn hold(runs: &[Run]) {
 }
 
 /// What is asked about any sheet that can be read; the first two are enough for one that cannot.
-const ALWAYS: [&str; 8] =
-    ["", "print", "numbers", "unequal", "room 0", "write", "write 0", "volumes 10001 10001 101"];
+const ALWAYS: [&str; 10] = [
+    "",
+    "print",
+    "numbers",
+    "unequal",
+    "room 0",
+    "write",
+    "write 0",
+    "volumes 10001 10001 101",
+    "seconds",
+    "seconds room 0",
+];
 
-/// What is asked about a sheet: of a street that has a plan also requests and lists at the ends of their ranges.
+/// What is asked about a sheet: of a street that has a plan also requests and lists at the ends of their ranges, and some of
+/// these in seconds.
 fn questions(sheet: &[u8]) -> Vec<String> {
     let street = read(sheet);
     let always = if street.is_ok() { &ALWAYS[..] } else { &ALWAYS[..2] };
@@ -98,7 +110,10 @@ fn at_the_ends(street: &Street) -> Vec<String> {
     let volumes = volumes.map(|(out, back, headway)| format!("volumes {out} {back} {headway}"));
     let bytes = write(street).len();
     let sheets = [bytes, bytes - 1].map(|room| format!("write {room}"));
-    sides.into_iter().flatten().chain(rooms).chain(platoons).chain(volumes).chain(sheets).collect()
+    let plans: Vec<String> =
+        sides.into_iter().flatten().chain(rooms).chain(platoons).chain(volumes).collect();
+    let in_seconds = plans.iter().skip(1).step_by(3).map(|words| format!("seconds {words}"));
+    plans.iter().cloned().chain(in_seconds).chain(sheets).collect()
 }
 
 #[test]
@@ -155,14 +170,19 @@ fn the_client_is_right_on_streets_that_rest() {
 /// A request about a random street, whose sheet may be damaged.
 fn random_run(number: u64) -> Run {
     let random = &mut Random::new(SEED, number);
-    let street = streets::street(random);
-    let (n, any) = (street.signals(), random.below(LARGEST_ROOM + 1));
+    let street = if random.one_in(3) { streets::in_seconds(random) } else { streets::street(random) };
+    let (n, some_room) = (street.signals(), random.below(LARGEST_ROOM + 1));
     let (bytes, some) = (write(&street).len(), random.below(LARGEST_BYTES + 1));
-    let words = match random.below(12) {
+    let words = match random.below(18) {
         0 | 1 => random.pick(&ALWAYS).to_string(),
-        2 => format!("room {}", random.pick(&[n - 1, n, n + 1, any])),
+        2 => format!("room {}", random.pick(&[n - 1, n, n + 1, some_room])),
         3 | 4 => format!("write {}", random.pick(&[bytes - 1, bytes, bytes + 1, some])),
         5..=7 => volumes(random, &street).to_string(),
+        8 => format!("seconds room {}", random.pick(&[n - 1, n, n + 1, some_room])),
+        9..=12 => match any(random, &street) {
+            Ask::Equal => "seconds".to_string(),
+            other => format!("seconds {other}"),
+        },
         _ => ask(random, &street).to_string(),
     };
     let case = Case::asking(random, number, words, &street);
@@ -173,19 +193,23 @@ fn random_run(number: u64) -> Run {
 fn the_client_is_right_on_random_sheets() {
     let runs: Vec<Run> = (0..RANDOM).map(random_run).collect();
     let told = |run: &Run| prints(&run.words.split_whitespace().collect::<Vec<&str>>(), &run.sheet);
-    let met = |start: &str, part: &str| {
-        runs.iter().map(told).filter(|text| text.starts_with(start) && text.contains(part)).count()
+    let met = |words: &str, start: &str, part: &str| {
+        let asked = runs.iter().filter(|run| run.words.starts_with(words));
+        asked.map(told).filter(|text| text.starts_with(start) && text.contains(part)).count()
     };
     let wanted = [
-        ("plan code 0 ", "", 40),
-        ("plan code 0 ", "\nvolumes outbound ", 15),
-        ("plan code 11 ", "\nvolumes outbound 0 inbound 0\n", 3),
-        ("writing code 0 ", "", 10),
-        ("writing code 3 ", "", 5),
+        ("", "plan code 0 ", "", 40),
+        ("volumes", "plan code 0 ", "\nvolumes outbound ", 15),
+        ("volumes", "plan code 11 ", "\nvolumes outbound 0 inbound 0\n", 3),
+        ("write", "writing code 0 ", "", 10),
+        ("write", "writing code 3 ", "", 5),
+        ("seconds", "plan code 0 ", "\nmeasure code 0 ", 15),
+        ("seconds", "plan code 13 ", " 77777\n", 5),
+        ("seconds room", "plan code 3 ", "", 2),
     ];
-    for (start, part, wanted) in wanted {
-        let met = met(start, part);
-        assert!(met >= wanted, "{met} replies `{start}` with `{}`", part.trim());
+    for (words, start, part, wanted) in wanted {
+        let met = met(words, start, part);
+        assert!(met >= wanted, "{met} replies to `{words}` start with `{start}` and have `{}`", part.trim());
     }
     hold(&runs);
 }
@@ -219,7 +243,7 @@ fn with_float(bits: u64, f: usize) -> Run {
 
 #[test]
 fn the_client_is_right_on_random_rows() {
-    let random: Vec<Run> = (0..2 * RANDOM).map(random_rows).collect();
+    let random: Vec<Run> = (0..SURVEYS).map(random_rows).collect();
     let mut tally = Tally::of(&[
         ("planned", 80),
         ("planned with a red of 0", 20),
@@ -288,13 +312,17 @@ fn the_client_hands_over_empty_lists() {
 #[test]
 fn the_client_tells_bad_words_from_a_refusal() {
     let client = Program::client();
-    let bad: [&[&str]; 10] = [
+    let bad: [&[&str]; 14] = [
         &[],
         &["/dev/stdin", "equal"],
         &["/dev/stdin", "outbound"],
         &["/dev/stdin", "room", "65"],
         &["/dev/stdin", "write", "836"],
         &["/dev/stdin", "volumes", "800", "300"],
+        &["/dev/stdin", "seconds", "equal"],
+        &["/dev/stdin", "seconds", "write"],
+        &["/dev/stdin", "seconds", "room", "65"],
+        &["/dev/stdin", "seconds", "volumes", "800", "300"],
         &["/dev/stdin", "survey"],
         &["/dev/stdin", "survey", "100", "room"],
         // A sheet has no rows.
@@ -325,9 +353,14 @@ fn the_clients_shown_lines_are_the_models() {
     let wanted = street_a.map(|words| format!("sheets/street-a.txt{words}"));
     let resting = ["crossing.txt", "crossing.txt inbound 1320", "all.txt", "all.txt outbound 1199"]
         .map(|words| format!("sheets/row-resting-{words}"));
+    let seconds =
+        ["street-a.txt seconds", "street-a.txt seconds outbound 80", "row-seconds-98-5-s.txt seconds"]
+            .map(|words| format!("sheets/{words}"));
     let rows = ["street-a.txt survey 100", "bad-kind.txt survey 100", "speed-of-zero.txt survey 100 room 2"]
         .map(|words| format!("client/rows/{words}"));
-    for words in wanted.iter().chain(&resting).chain(&rows).map(String::as_str).chain(["empty"]) {
+    for words in
+        wanted.iter().chain(&resting).chain(&seconds).chain(&rows).map(String::as_str).chain(["empty"])
+    {
         assert!(cases.iter().any(|(shown, _)| shown == words), "client/expected.txt does not show {words}");
     }
     for (line, text) in cases {

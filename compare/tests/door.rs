@@ -71,7 +71,7 @@ fn words_that_cannot_be_taken_are_answered_with_why() {
         (
             "ask",
             vec!["equals"],
-            "ask: there is no request equals; there are equal, outbound, inbound, platoons, volumes, measure, write and survey\n",
+            "ask: there is no request equals; there are equal, outbound, inbound, platoons, volumes, seconds, measure, write and survey\n",
         ),
         ("ask", vec!["writes"], "ask: there is no request writes; there are equal, outbound"),
         ("ask", vec!["write", "5", "a"], "ask: one street sheet is read, and here are 2: 5 a\n"),
@@ -111,6 +111,32 @@ fn volumes_take_three_numbers() {
 }
 
 #[test]
+fn seconds_take_a_plan_with_its_numbers() {
+    let large = "ask: in 'seconds outbound 4294967296' a number is 4,294,967,296 or more\n";
+    let after = "ask: after seconds comes equal, outbound, inbound, platoons or volumes";
+    let usages: [(&[&str], &str); 12] = [
+        (&["second", "equal"], "ask: there is no request second; there are equal, outbound"),
+        (&["seconds"], &format!("{after}\n")),
+        (&["seconds", "80"], &format!("{after}, and not 80\n")),
+        (&["seconds", "sheets/street-a.txt"], &format!("{after}, and not sheets/street-a.txt\n")),
+        (&["seconds", "seconds", "equal"], &format!("{after}, and not seconds\n")),
+        (&["seconds", "measure", "0", "10"], &format!("{after}, and not measure\n")),
+        (&["seconds", "survey", "100"], &format!("{after}, and not survey\n")),
+        (&["seconds", "outbound"], "ask: seconds outbound lacks a number\n"),
+        (&["seconds", "platoons", "30", "x"], "ask: seconds platoons 30 lacks a number, since x is none"),
+        (&["seconds", "equal", "5", "a"], "ask: one street sheet is read, and here are 2: 5 a\n"),
+        (
+            &["seconds", "volumes", "800", "300", "20", "room", "2"],
+            "ask: one street sheet is read, and here are 2: room 2\n",
+        ),
+        (&["seconds", "outbound", "4294967296"], large),
+    ];
+    for (words, why) in usages {
+        expect_misused("ask", words, why);
+    }
+}
+
+#[test]
 fn a_survey_takes_its_cycle() {
     let usages: [(&[&str], &str); 6] = [
         (&["surveys", "100"], "ask: there is no request surveys; there are equal, outbound"),
@@ -138,6 +164,8 @@ fn what_cannot_be_read_or_made_is_said_to_be_that() {
         ("./ask equal <&-", "standard input is closed"),
         ("./ask write <&-", "standard input is closed"),
         ("./ask write docs", "docs is a folder, not a street sheet"),
+        ("./ask seconds equal docs", "docs is a folder, not a street sheet"),
+        ("./ask seconds equal 5", "there is no file 5"),
         ("./ask write 5", "there is no file 5"),
         ("./plan <docs", "the street sheet cannot be read: Is a directory"),
         ("./plan docs", "docs is a folder, not a street sheet"),
@@ -214,7 +242,7 @@ fn the_pages_tables_can_be_asked_as_they_stand() {
     }
     let shown = examples.text.lines().find(|line| line.starts_with("    printf ")).expect("a command");
     expect(shown, &bash(shown.trim()), 0, &surveys[0][2], TESTED);
-    assert_eq!((lines.len(), paper.len(), surveys.len()), (44, 19, 13));
+    assert_eq!((lines.len(), paper.len(), surveys.len()), (50, 19, 13));
 }
 
 #[test]
@@ -224,13 +252,17 @@ fn the_commands_of_the_first_page_work() {
     let starts = |line: &&str| line.starts_with("    ./plan ") || line.starts_with("    ./ask ");
     let commands: Vec<String> = page.lines().filter(starts).map(command).collect();
     let words: Vec<&str> = commands.iter().filter_map(|line| line.split(' ').nth(1)).collect();
-    assert_eq!(words, ["sheets/street-a.txt", "outbound", "platoons", "volumes", "measure", "write"]);
+    assert_eq!(
+        words,
+        ["sheets/street-a.txt", "outbound", "platoons", "volumes", "seconds", "measure", "write"]
+    );
     let sheet = text("sheets/street-a.txt");
     let printed = [
         "1 60 60 60 0\n0\n10\n",
         "1 60 80 40 0\n180\n10\n",
         "1 60 90 30 0\n170\n10\n",
         "1 60 89 31 0\n171\n10\n801 279\n",
+        "1 60 80 40 0\n1\n3\n",
         "60 40 60 60\n",
         &sheet,
     ];
@@ -302,6 +334,81 @@ fn refused_volumes_are_explained() {
         let ended = script("ask", &["volumes", out, back, headway, file], b"");
         expect(said, &ended, 1, &format!("refused {refused}\n"), said);
         assert!(ended.said.contains("ask: docs/RULES.md says what a request may ask"), "{ended:?}");
+    }
+}
+
+#[test]
+fn what_is_asked_in_seconds_is_answered_or_explained() {
+    let (a, size) = ("sheets/street-a.txt", format!("{}{TESTED}", SIZE_A.replace("plan: ", "ask: ")));
+    let answers: [(&[&str], &str); 5] = [
+        (&["equal"], "1 60 60 60 0\n2\n3\n"),
+        (&["outbound", "80"], "1 60 80 40 0\n1\n3\n"),
+        (&["inbound", "80"], "1 60 40 80 0\n2\n2\n"),
+        (&["platoons", "30", "10"], "1 60 90 30 0\n1\n3\n"),
+        (&["volumes", "800", "300", "20"], "1 60 89 31 0\n1\n3\n"),
+    ];
+    let asked = |words: &[&str], file: &str| {
+        let words: Vec<&str> = ["seconds"].iter().chain(words).copied().chain([file]).collect();
+        script("ask", &words, STREET_A)
+    };
+    for (words, printed) in answers {
+        for file in [a, "-"] {
+            expect(&format!("{words:?}"), &asked(words, file), 0, printed, &size);
+        }
+    }
+    // The sentences are those of the plan that is asked for.
+    let refusals: [(&[&str], &str, &str); 6] = [
+        (&["outbound", "101"], "9 0", "the width 101 is not from the greater of 1 and B"),
+        (&["platoons", "100001", "5"], "8 1", "the outbound platoon, 100001, is above"),
+        (&["platoons", "5", "100001"], "8 2", "the inbound platoon, 100001, is above"),
+        (
+            &["volumes", "10001", "300", "20"],
+            "11 1",
+            "the outbound volume, 10001, is above 10,000 vehicles an hour.\n",
+        ),
+        (
+            &["volumes", "800", "10001", "20"],
+            "11 2",
+            "the inbound volume, 10001, is above 10,000 vehicles an hour.\n",
+        ),
+        (
+            &["volumes", "800", "300", "0"],
+            "11 3",
+            "the headway, 0, is not from 1 to 100 ticks, tenths of a second.\n",
+        ),
+    ];
+    for (words, refused, said) in refusals {
+        let ended = asked(words, a);
+        expect(said, &ended, 1, &format!("refused {refused}\n"), said);
+        assert!(ended.said.contains("ask: docs/RULES.md says what a request may ask"), "{ended:?}");
+    }
+}
+
+#[test]
+fn a_cycle_that_no_cabinet_keeps_is_named_with_those_beside_it() {
+    let refusals = [
+        ("985", "line 2 has \"985\", and a cycle of 98.5 s is no whole number of seconds, as a cabinet needs; type 980 for 98 s, or 990 for 99 s.\n"),
+        ("11", "and a cycle of 1.1 s is no whole number of seconds, as a cabinet needs; type 10 for 1 s, or 20 for 2 s.\n"),
+        ("5999", "and a cycle of 599.9 s is no whole number of seconds, as a cabinet needs; type 5990 for 599 s, or 6000 for 600 s.\n"),
+    ];
+    for (cycle, said) in refusals {
+        // The red is too long as well for the shortest of them.
+        let sheet = format!("1\n{cycle}\n1\n0 240\n0\n");
+        let ended = script("ask", &["seconds", "equal"], sheet.as_bytes());
+        expect(cycle, &ended, 1, "refused 13 0\n", said);
+        assert!(
+            ended.said.contains("ask: docs/SHEETS.md shows what gets each code and how to mend it"),
+            "{ended:?}"
+        );
+    }
+    let sheets = [
+        ("9", "4 0", "line 2 has \"9\", and the cycle is not from 10"),
+        ("240", "5 1", "line 4 has \"0 240\""),
+    ];
+    for (cycle, refused, said) in sheets {
+        let sheet = format!("1\n{cycle}\n1\n0 240\n0\n");
+        let ended = script("ask", &["seconds", "equal"], sheet.as_bytes());
+        expect(cycle, &ended, 1, &format!("refused {refused}\n"), said);
     }
 }
 

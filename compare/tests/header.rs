@@ -36,6 +36,26 @@ fn every_function_of_the_archive_is_declared_and_called() {
     }
 }
 
+/// The declaration of a call in the header, in one line: what it answers, and what it takes.
+fn declared(header: &str, name: &str) -> String {
+    let at = header.find(&format!(" {name}(")).unwrap_or_else(|| panic!("{name} is not declared"));
+    let start = header[..at].rfind('\n').map_or(0, |end| end + 1);
+    let end = at + header[at..].find(';').expect("an end");
+    header[start..end].split_whitespace().collect::<Vec<&str>>().join(" ")
+}
+
+#[test]
+fn each_plan_has_a_call_in_seconds_that_takes_the_same() {
+    let header = text("include/corbatan.h");
+    for plan in ["equal", "outbound", "inbound", "platoons", "volumes"] {
+        let name = format!("corbatan_{plan}");
+        let takes = declared(&header, &name).replace("offsets", "seconds");
+        let answers = takes.replace("CorbatanVolumes ", "CorbatanPlan ");
+        let expected = answers.replace(&format!(" {name}("), &format!(" {name}_seconds("));
+        assert_eq!(declared(&header, &format!("{name}_seconds")), expected);
+    }
+}
+
 #[test]
 fn every_code_of_the_rules_is_in_the_header() {
     let header = text("include/corbatan.h");

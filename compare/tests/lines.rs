@@ -1,8 +1,8 @@
 //! From a refusal to its line: the slips that people make, typed into copies of the samples, and damaged sheets; and from
-//! refused volumes and refused rows to the number at fault. The numbers of rows become floats by awk, which is held to the
-//! bits of each.
+//! refused volumes, a cycle that no cabinet keeps and refused rows to the number at fault. The numbers of rows become floats
+//! by awk, which is held to the bits of each.
 
-use compare::asks::volumes;
+use compare::asks::{any, volumes};
 use compare::equal::equal;
 use compare::moved::{plan, Ask};
 use compare::page::{sheet, street, Page};
@@ -10,8 +10,10 @@ use compare::printed::plan_prints;
 use compare::random::Random;
 use compare::rows::{typed, Survey, LIMITS};
 use compare::scripts::{converted, ended, look, look_at_rows, script, written_otherwise, Ended};
-use compare::sheet::{fault_line, number, read, LARGEST_SHEET};
+use compare::seconds::cabinets;
+use compare::sheet::{fault_line, number, read, write, LARGEST_SHEET};
 use compare::street::{Refusal, Street, MAX_SIGNALS};
+use compare::streets;
 use compare::survey::{self, eighths, Row, CHAINAGE, EIGHTH, GAP};
 use compare::tally::Tally;
 use compare::trial::{in_parallel, Case};
@@ -422,6 +424,42 @@ fn volumes_that_are_refused_are_named_with_what_they_come_to() {
         Tally::of(&[("11 at 1", 10), ("11 at 2", 10), ("11 at 3", 5), ("8 at 1", 10), ("8 at 2", 5)]);
     told.iter().for_each(|Refusal { code, place }| tally.note(&format!("{code} at {place}"), true));
     tally.close();
+}
+
+/// What is said of a cycle that is no whole number of seconds.
+fn about_cycle(cycle: i64) -> String {
+    let (seconds, below) = (in_unit(cycle, 10), cycle / 10);
+    let needs = format!("a cycle of {seconds} s is no whole number of seconds, as a cabinet needs");
+    let mend = format!("type {below}0 for {below} s, or {0}0 for {0} s", below + 1);
+    format!("refused, code 13: line 2 has \"{cycle}\", and {needs}; {mend}.\n")
+}
+
+#[test]
+fn what_is_refused_in_seconds_is_explained_as_its_plan_is() {
+    let asked = |k: u64| {
+        let random = &mut Random::new(14, k);
+        let street = if random.one_in(3) { streets::street(random) } else { streets::in_seconds(random) };
+        let ask = any(random, &street);
+        (street, ask)
+    };
+    let asked: Vec<(Street, Ask)> = (0..700).map(asked).collect();
+    let codes = in_parallel(&asked, |(street, ask)| {
+        let Refusal { code, place } = cabinets(street, *ask, MAX_SIGNALS).err()?;
+        let said = look(&write(street), code, place, &format!("seconds {ask}"));
+        let told = if code == 13 {
+            about_cycle(street.cycle)
+        } else {
+            look(&write(street), code, place, &ask.to_string())
+        };
+        assert_eq!(said, told, "{ask} on {street:?}");
+        assert!(!said.contains(", place "), "{said}");
+        Some(code)
+    });
+    for (code, least) in [(13, 50), (9, 20), (8, 5), (11, 3)] {
+        let met = codes.iter().filter(|&&met| met == code).count();
+        println!("{met:5} with code {code}");
+        assert!(met >= least, "{met} with code {code}");
+    }
 }
 
 /// A float of any bits, or of a size that an instrument shows.

@@ -4,6 +4,7 @@ use compare::bands::{measure, Band};
 use compare::cases::{input, output};
 use compare::decimal::{decimal, digits, gain, grouped, nearest, number, seconds};
 use compare::equal::{equal, Pairs, Plan};
+use compare::hold::replies;
 use compare::moved::{Ask, MAX_PLATOON};
 use compare::named::named;
 use compare::page::{coded, sheet, street, Page, Sample};
@@ -15,10 +16,13 @@ use compare::printed::{plan_prints, printed};
 use compare::resting::taken_out;
 use compare::rows::typed;
 use compare::run::Program;
+use compare::scripts::look;
+use compare::seconds::{cabinets, green_starts, kept, moved_by, SECOND, TICKS};
 use compare::sheet::{read, write, LARGEST_SHEET};
 use compare::street::{link_time, Street, Times, CYCLE, MAX_SIGNALS};
 use compare::streets::greatest;
 use compare::survey;
+use compare::trial::Case;
 use compare::volumes::{fitting, platoon, HEADWAY, MAX_VOLUME, PER_HALF};
 use std::collections::BTreeSet;
 
@@ -33,7 +37,7 @@ fn the_typists_page_is_read_whole() {
     let (page, samples) = typists();
     let starts = |mark: &str| page.text.lines().filter(|line| line.starts_with(mark)).count();
     let blocks = page.blocks().len();
-    assert_eq!((blocks, page.slips().len()), (22, 21));
+    assert_eq!((blocks, page.slips().len()), (23, 21));
     assert_eq!((starts("Prints:"), starts("```sheet"), starts("```")), (blocks, blocks, 2 * blocks));
     let slips = page.text.lines().filter(|line| line.starts_with('|') && line.contains("| `refused"));
     assert_eq!(slips.count(), page.slips().len());
@@ -79,7 +83,7 @@ fn examples() -> Vec<(Vec<u8>, String)> {
 #[test]
 fn the_examples_come_out() {
     let examples = examples();
-    assert_eq!(examples.len(), 44 + 13);
+    assert_eq!(examples.len(), 50 + 13);
     let bytes = input(&examples.iter().map(|(case, _)| case).collect::<Vec<_>>());
     let expected: String = examples.iter().map(|(_, reply)| format!("{reply}\n")).collect();
     assert_eq!(output(&bytes), expected, "the model");
@@ -181,6 +185,70 @@ fn the_examples_show_what_a_signal_that_rests_does() {
         format!("Where every signal rests B is the whole cycle, {whole}, the only width"),
     ];
     told.iter().for_each(|sentence| page.says(sentence));
+}
+
+#[test]
+fn the_examples_show_how_greens_start_in_whole_seconds() {
+    let (a, lost) = (street("street-a.txt"), street("row-seconds-19-halves.txt"));
+    let started = |street: &Street, ask: Ask| {
+        let served = cabinets(street, ask, MAX_SIGNALS).expect("a plan");
+        let starts = green_starts(street, &served.plan.offsets);
+        (served, starts)
+    };
+    let ((equal, even), (moved, past), (tied, half)) =
+        (started(&a, Ask::Equal), started(&a, Ask::Outbound(80)), started(&a, Ask::Platoons(30, 10)));
+    let (served, starts) = started(&lost, Ask::Equal);
+    let ([f, g], [r, s]) = ([equal.plan.offsets[0], equal.plan.offsets[1]], [a.reds[0], a.reds[1]]);
+    let (offset, late) = (moved.plan.offsets[0], tied.plan.offsets[0]);
+    let [up, down] = [0, 1].map(|j| moved_by(starts[j], served.seconds[j], lost.halves()));
+    let [first, second] = [kept(&lost, &served.seconds)[0], kept(&lost, &served.seconds)[1]];
+    let ((out, back), b) = (measure(&lost, &[first, second]), served.plan.best);
+    assert_eq!((out.width < back.width, half[0] % SECOND, tied.seconds[0]), (true, SECOND / 2, 1));
+    let told = [
+        format!("start at {f} + {r} = {} and {g} + {s} = {} halves,", even[0], even[1]),
+        format!("at {} s and at {} s. With 80 outbound", equal.seconds[0], equal.seconds[1]),
+        format!(
+            "the offset of signal 1 is {offset}, and {offset} + {r} = {} is {} past",
+            offset + r,
+            past[0]
+        ),
+        format!("past the cycle, second {} of the next.", moved.seconds[0]),
+        format!("it is {late}, and its green starts {} past the cycle, half-way", half[0]),
+        format!("greens start at {} and at {}: one goes {up} halves up,", starts[0], starts[1]),
+        format!("to {} s, and the other {} back, to {} s.", served.seconds[0], -down, served.seconds[1]),
+        format!(
+            "keep the offsets {SECOND} - {} = {first} and man(0 - {}) = {second},",
+            lost.reds[0], lost.reds[1]
+        ),
+        format!("the outbound band is {} wide: it has lost {} of its {b} halves,", out.width, b - out.width),
+        format!("A cycle of {} s is no", decimal(street("row-seconds-98-5-s.txt").cycle.into(), 10, 1)),
+    ];
+    told.iter().for_each(|sentence| Page::open("EXAMPLES.md").says(sentence));
+}
+
+#[test]
+fn the_typists_page_shows_a_cycle_that_no_cabinet_keeps() {
+    let (page, samples) = typists();
+    let broken = |sample: &&Sample| {
+        read(&sample.sheet).map_or(false, |street| street.range_fault().is_none() && street.cycle % TICKS > 0)
+    };
+    let found: Vec<&Sample> = samples.iter().filter(broken).collect();
+    assert_eq!(found.len(), 1, "one sheet has such a cycle");
+    let street = read(&found[0].sheet).expect("a street");
+    assert_eq!(found[0].sheet, sheet("row-seconds-98-5-s.txt"));
+    assert_eq!(Street { cycle: 900, ..street.clone() }, read(&samples[0].sheet).expect("the good sheet"));
+    let mended = Street { cycle: street.cycle / TICKS * TICKS, ..street.clone() };
+    let cases = [Case::about(&street, "seconds equal"), Case::about(&mended, "seconds equal")];
+    let answers = replies(&Program::cases(), &cases);
+    for (case, answer) in cases.iter().zip(&answers) {
+        assert_eq!(output(&case.bytes()), format!("{answer}\n\n"), "the model, on {case:?}");
+    }
+    page.says(&format!("In seconds it is refused, with `{}`:", answers[0]));
+    let lines: Vec<String> = answers[1].lines().map(|line| format!("`{line}`")).collect();
+    page.says(&format!("Type {0} or {1},", mended.cycle, mended.cycle + TICKS));
+    page.says(&format!("For {} that is {}.", mended.cycle, lines.join(", ")));
+    let said = look(&found[0].sheet, 13, 0, "seconds equal");
+    page.says(&format!("ask: {}", said.trim_end()));
 }
 
 #[test]

@@ -1,15 +1,17 @@
-//! docs/RULES.md by hand: its tables, sentences and drawings of street A, of one platoon alone and of volumes, worked out
-//! anew from the sheets.
+//! docs/RULES.md by hand: its tables, sentences and drawings of street A, of one platoon alone, of volumes and of whole
+//! seconds, worked out anew from the sheets.
 
 use compare::bands::{clear, measure};
 use compare::decimal::{decimal, grouped, seconds};
 use compare::equal::{Pairs, Plan};
+use compare::exact::Fine;
 use compare::moved::{papers_width, plan, platoon_rule, shortest_green, Ask, MAX_PLATOON};
 use compare::named::named;
 use compare::page::{sheet, street, Page};
 use compare::paper::asked;
 use compare::pencil::{drawing, green, named_sentence, passes, starts, switches, turned, widths, SQUARE, UP};
 use compare::printed::printed;
+use compare::seconds::{cabinets, green_starts, kept, Cabinets, SECOND};
 use compare::street::{Street, Times, CYCLE};
 use compare::volumes::{fitting, largest, platoon, HEADWAY, PER_HALF};
 
@@ -209,6 +211,70 @@ fn a_plan_that_is_rounded_once_more_has_other_widths() {
         format!("Where the controller takes {early} s for it, {sooner} and the bands are {wide} wide;"),
         format!("where it takes {late} s, {later} and they are {narrow}."),
         format!("one that counts whole seconds only multiples of {}.", street.halves() * 10 / street.cycle),
+    ] {
+        page.says(&sentence);
+    }
+}
+
+/// The plan of a street in whole seconds, where its greens start, and the offsets that the cabinets keep.
+fn in_seconds(street: &Street, ask: Ask) -> (Cabinets, Vec<i64>, Vec<i64>) {
+    let found = cabinets(street, ask, street.signals()).expect("a plan");
+    let (greens, offsets) = (green_starts(street, &found.plan.offsets), kept(street, &found.seconds));
+    (found, greens, offsets)
+}
+
+#[test]
+fn street_a_in_whole_seconds_comes_out() {
+    let (page, street) = pencil();
+    let (equal, greens, offsets) = in_seconds(&street, Ask::Equal);
+    let (moved, later, same) = in_seconds(&street, Ask::Outbound(61));
+    let wide = widths(&street, &same);
+    assert_eq!((&offsets, &equal.seconds, &offsets), (&equal.plan.offsets, &moved.seconds, &same));
+    for sentence in [
+        format!("The greens start at {} and {} halves, both multiples of {SECOND},", greens[0], greens[1]),
+        format!("so the cabinets get {} and {} and nothing is lost:", equal.seconds[0], equal.seconds[1]),
+        format!("man({} - {}) = {} and", greens[0], street.reds[0], offsets[0]),
+        format!("and man({} - {}) = {} are the plan's own offsets.", greens[1], street.reds[1], offsets[1]),
+        format!("`outbound 61` starts them at {} and {}.", later[0], later[1]),
+        format!("{} is nearest to {},", later[0], SECOND * moved.seconds[0]),
+        format!("they keep {} and {}, and the bands are {} and {} wide,", same[0], same[1], wide[0], wide[1]),
+        format!("where {} and {} are reported.", moved.plan.outbound, moved.plan.inbound),
+    ] {
+        page.says(&sentence);
+    }
+}
+
+#[test]
+fn whole_seconds_cost_a_street_all_that_they_may() {
+    let (page, reds) = (Page::open("RULES.md"), [9, 10]);
+    let street = Street {
+        cycle: 30,
+        reds: reds.to_vec(),
+        distances: vec![0, 2_850],
+        outbound: vec![1_000],
+        inbound: vec![1_000],
+    };
+    let exchanged = Street { reds: vec![reds[1], reds[0]], ..street.clone() };
+    let (found, greens, offsets) = in_seconds(&street, Ask::Equal);
+    let Plan { reference, best, not_whole, .. } = found.plan;
+    let exact = |street: &Street, offsets: &[i64]| {
+        let fine = Fine::of(street).expect("a coarse unit");
+        fine.widths(&fine.in_units(offsets)).map(|width| width / fine.unit)
+    };
+    let (left, thin) = (widths(&street, &offsets)[0], exact(&street, &offsets)[0]);
+    let other = in_seconds(&exchanged, Ask::Equal).2;
+    assert_eq!((widths(&exchanged, &other)[1], exact(&exchanged, &other)[1]), (left, thin));
+    assert_eq!((left, thin, &found.plan.offsets), (best - 19, (best - 20).into(), &vec![0, 0]));
+    for sentence in [
+        format!(
+            "Take C = {}, reds of {} and {}, a link of 2,850 mm and 1,000 mm/s",
+            street.cycle, reds[0], reds[1]
+        ),
+        format!("B is {best}, the reference is signal {reference}, both offsets are 0 and m is {not_whole}."),
+        format!("The greens start at {} and {} halves and become", greens[0], greens[1]),
+        format!("become {} and {}, seconds", SECOND * found.seconds[0], SECOND * found.seconds[1]),
+        format!("seconds {} and {}. Of the {best} halves", found.seconds[0], found.seconds[1]),
+        format!("outbound {left} are left at rounded times and {thin} at exact ones."),
     ] {
         page.says(&sentence);
     }

@@ -23,7 +23,9 @@ fn case(request: &str, sheet: &[u8]) -> Vec<u8> {
 fn the_crates_own_cases_get_what_stands_beside_them() {
     let (asked, replies) = (text("crates/cases/stdin"), text("crates/cases/stdout"));
     expect(&Program::cases(), asked.as_bytes(), &replies);
-    for word in ["equal", "outbound", "inbound", "platoons", "volumes", "measure", "write", "survey"] {
+    for word in
+        ["equal", "outbound", "inbound", "platoons", "volumes", "measure", "write", "survey", "seconds"]
+    {
         assert!(asked.split('\0').any(|case| case.starts_with(word)), "no case asks for {word}");
     }
 }
@@ -86,7 +88,7 @@ fn a_sheet_is_written_by_its_word_and_room_alone() {
 fn the_room_of_a_sheet_is_too_much_for_a_plan() {
     expect_bad(&["equal room 65", "equal room 4096", "outbound 80 room 4096", "inbound 80 room 4096"]);
     expect_bad(&["platoons 30 10 room 4096", "volumes 800 300 20 room 4096", "measure 0 10 room 4096"]);
-    expect_bad(&["measure room 4096"]);
+    expect_bad(&["measure room 4096", "seconds equal room 4096", "seconds volumes 800 300 20 room 4096"]);
 }
 
 fn street(signals: i64) -> Street {

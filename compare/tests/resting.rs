@@ -3,7 +3,7 @@
 //!
 //! `COMPARE_SEED` sets the seed of the random cases, and `COMPARE_CASE` replays one of them by its number.
 
-use compare::asks::{ask, volumes};
+use compare::asks::{any, ask, volumes};
 use compare::brute::beaten;
 use compare::equal::{Pairs, Plan};
 use compare::hold::{expect, hold, planned, plans, plans_asked, promised, replies, widths};
@@ -33,8 +33,12 @@ fn rested(random: &mut Random, mut street: Street, number: u64) -> Street {
 
 /// A request about such a street, each request in turn; now and then a red is as long as the cycle, or longer.
 fn random_case(seed: u64, number: u64) -> Case {
-    let (random, word) = (&mut Random::new(seed, number), number / RESTING.len() as u64 % 8);
-    let street = if word == 7 { rows::street(random) } else { streets::street(random) };
+    let (random, word) = (&mut Random::new(seed, number), number / RESTING.len() as u64 % 9);
+    let street = match word {
+        7 => rows::street(random),
+        8 => streets::in_seconds(random),
+        _ => streets::street(random),
+    };
     let mut street = rested(random, street, number);
     let request = match word {
         0 => "equal".to_string(),
@@ -42,7 +46,8 @@ fn random_case(seed: u64, number: u64) -> Case {
         4 => volumes(random, &street).to_string(),
         5 => request(&offsets(random, &street)),
         6 => "write".to_string(),
-        _ => format!("survey {}", street.cycle),
+        7 => format!("survey {}", street.cycle),
+        _ => format!("seconds {}", any(random, &street)),
     };
     if random.one_in(12) {
         let k = random.below(street.signals());

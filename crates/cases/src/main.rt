@@ -21,6 +21,12 @@ ghost use Rattle.lines.specs.Steps.{maxEntries, maxRoom};
 // The most bytes that one run takes.
 const MAX_INPUT: usize = 65_536;
 
+// What a plan leaves in the lent list: offsets in halves, or whole seconds.
+enum Unit {
+    Halves,
+    Seconds,
+}
+
 // Tells on standard error, where the program says nothing else, that a part of a reply was lost: a program of the kit has no exit status
 // of its own.
 fn noted(written: bool) {
@@ -92,8 +98,29 @@ fn show_volumes(answer: Answer, cycle: u32, headway: u32) {
     }
 }
 
+// The answer to a request, which leaves offsets in the lent list, or whole seconds.
+fn answered(
+    unit: Unit,
+    request: Request,
+    cycle: u32,
+    reds: &[u32],
+    distances: &[u32],
+    outbound: &[u32],
+    inbound: &[u32],
+    list: &mut [u32],
+) -> Answer {
+    match unit {
+        Unit::Halves => {
+            plans::plan_for(request, cycle, reds, distances, outbound, inbound, list)
+        }
+        Unit::Seconds => {
+            cabinets::plan_for(request, cycle, reds, distances, outbound, inbound, list)
+        }
+    }
+}
+
 // The plan that a request asks for, on a sheet's street.
-fn planned(s: Sheet, request: Request, room: usize)
+fn planned(s: Sheet, unit: Unit, request: Request, room: usize) -> Answer
     requires { ⌜ Held s ⌝ }
 {
     let n = s.signals;
@@ -102,18 +129,27 @@ fn planned(s: Sheet, request: Request, room: usize)
     let distances = s.distances;
     let outbound = s.outbound;
     let inbound = s.inbound;
-    let mut offsets = [0u32; Street::MAX_SIGNALS];
+    let mut list = [0u32; Street::MAX_SIGNALS];
     let k = printed::lent(room);
-    let answer = plans::plan_for(
+    let answer = answered(
+        unit,
         request,
         s.cycle,
         &reds[..n],
         &distances[..n],
         &outbound[..links],
         &inbound[..links],
-        &mut offsets[..k],
+        &mut list[..k],
     );
-    show(printed::answer_text(answer, n, offsets));
+    show(printed::answer_text(answer, n, list));
+    answer
+}
+
+// A plan in halves, with the line of the largest volumes where it was asked for by volumes.
+fn planned_in_halves(s: Sheet, request: Request, room: usize)
+    requires { ⌜ Held s ⌝ }
+{
+    let answer = planned(s, Unit::Halves, request, room);
     if let Request::Volumes(out, back, headway) = request {
         show_volumes(answer, s.cycle, headway);
     }
@@ -144,7 +180,7 @@ fn rewritten(s: Sheet, room: usize)
     }
 }
 
-// What is asked of a sheet's numbers, a plan, the sheet's own bytes or else a measure, or the reader's refusal.
+// What is asked of a sheet's numbers, a plan in halves or in seconds, the sheet's own bytes or else a measure, or the reader's refusal.
 fn on_sheet(bytes: &[u8], call: Call, line: Line)
     requires { ⌜ (line .room ≤ maxRoom) × (line .count ≤ maxEntries) × (length (line .numbers) ≡ maxEntries) ⌝ }
 {
@@ -156,7 +192,9 @@ fn on_sheet(bytes: &[u8], call: Call, line: Line)
             let s = reading.sheet;
             let numbers = line.numbers;
             if let Call::Plan(request) = call {
-                planned(s, request, line.room);
+                planned_in_halves(s, request, line.room);
+            } else if let Call::Seconds(request) = call {
+                planned(s, Unit::Seconds, request, line.room);
             } else if let Call::Write = call {
                 rewritten(s, line.room);
             } else {

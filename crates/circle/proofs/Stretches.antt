@@ -3,7 +3,7 @@
 pub use Rattle.circle.proofs.Stretches.Arcs.{Passes, Spans, since, spans, where-some}
 pub use Rattle.circle.proofs.Stretches.Since.{Rising, along}
 pub use Rattle.circle.proofs.Stretches.Reflection.{Patterned, likes, offset-turns}
-pub use Rattle.circle.proofs.Stretches.Perturbation.{lags-back, lags-passes, part}
+pub use Rattle.circle.proofs.Stretches.Perturbation.{lags-back, lags-passes, near-passes, part}
 pub use Rattle.circle.proofs.Stretches.Clear.{Proper, band-starts, passes-stretch, proper-way, since-turns, width-ge}
 pub use Rattle.circle.proofs.Stretches.Longest.{endAt, left, longest, longest-least, since-end}
 pub use Rattle.circle.proofs.Stretches.Candidates.{Best, IsBand, NoWorse, best-band, best-more, best-none, best-passed, from, no-red}

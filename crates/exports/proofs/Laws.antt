@@ -16,9 +16,10 @@ use Rattle.plans.specs.declared.Answer.the-variants as answer
 use Rattle.widths.specs.declared.Request.{Request}
 use Rattle.bands.specs.Measure.{noBand}
 use Rattle.bands.specs.declared.Measurement.the-variants as measurement
+use Rattle.cabinets.specs.Calls.{InSeconds}
 use Rattle.exports.specs.declared.CorbatanPlan.{CorbatanPlan}
 use Rattle.exports.specs.Flat.{planFields, flatPlan, measureFields, flatMeasure, flatSheet, flatReading, writingFields, flatWriting}
-use Rattle.exports.specs.Calls.{FlatRequested}
+use Rattle.exports.specs.Calls.{FlatRequested, FlatSeconds}
 
 -- a plan with another B
 abbrev withB : Plan → ℤ → Plan
@@ -54,8 +55,12 @@ pub writing-refused :
 writing-refused f code e = ap (λ k. writingFields (record { code = k; place = f .place; count = 0 })) e
 
 -- what `plans` ensures of an answer, of the struct that holds it
-pub requested-flat : (asked : Request) (l : Lists) (entry exit : List ℕ) (a : Answer) (r : CorbatanPlan) → plans.Requested asked l entry exit a → r ≡ flatPlan a → FlatRequested asked l entry exit r
-requested-flat asked l entry exit a r found e = record { reply = e ∙ ap flatPlan (found .reply); after = found .after }
+pub requested-flat : {asked : Request} {l : Lists} {entry exit : List ℕ} {a : Answer} {r : CorbatanPlan} → plans.Requested asked l entry exit a → r ≡ flatPlan a → FlatRequested asked l entry exit r
+requested-flat found e = record { reply = e ∙ ap flatPlan (found .reply); after = found .after }
+
+-- the same of what `cabinets` ensures
+pub seconds-flat : {asked : Request} {l : Lists} {entry exit : List ℕ} {a : Answer} {r : CorbatanPlan} → InSeconds asked l entry exit a → r ≡ flatPlan a → FlatSeconds asked l entry exit r
+seconds-flat found e = record { reply = e ∙ ap flatPlan (found .reply); after = found .after }
 
 -- a reading with its verdict in numbers
 pub reading-flat : (r : Reading) (code place : ℕ) → code ≡ codeOf (r .verdict) → place ≡ placeOf (r .verdict) → flatSheet code place (r .sheet) ≡ flatReading r

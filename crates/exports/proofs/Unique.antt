@@ -19,11 +19,15 @@ use Rattle.exports.specs.declared.CorbatanSheet.{CorbatanSheet}
 use Rattle.exports.specs.declared.CorbatanWriting.{CorbatanWriting}
 use Rattle.exports.specs.declared.CorbatanText.{CorbatanText}
 use Rattle.exports.specs.Flat.{flatCarried, flatMeasure, flatReading, flatText}
-use Rattle.exports.specs.Calls.{FlatRequested, FlatCarries, FlatReads, FlatWrites, FlatPrints}
+use Rattle.exports.specs.Calls.{FlatRequested, FlatSeconds, FlatCarries, FlatReads, FlatWrites, FlatPrints}
 
 -- of any request, and so of each of the four calls
 pub requested-unique : (asked : Request) (l : Lists) (entry exit exit′ : List ℕ) (r r′ : CorbatanPlan) → FlatRequested asked l entry exit r → FlatRequested asked l entry exit′ r′ → Same r r′ exit exit′
 requested-unique asked l entry exit exit′ r r′ one other = same (one .reply) (other .reply) (one .after) (other .after)
+
+-- of any request in seconds, and so of each of the five calls
+pub seconds-unique : (asked : Request) (l : Lists) (entry exit exit′ : List ℕ) (r r′ : CorbatanPlan) → FlatSeconds asked l entry exit r → FlatSeconds asked l entry exit′ r′ → Same r r′ exit exit′
+seconds-unique asked l entry exit exit′ r r′ one other = same (one .reply) (other .reply) (one .after) (other .after)
 
 pub volumes-unique : (out back h : ℕ) (l : Lists) (entry exit exit′ : List ℕ) (r r′ : CorbatanVolumes) → FlatCarries out back h l entry exit r → FlatCarries out back h l entry exit′ r′ → Same r r′ exit exit′
 volumes-unique out back h l entry exit exit′ r r′ one other =

@@ -12,6 +12,7 @@ use Rattle.plans.specs.Requests.{requestAnswer, requestAfter}
 use Rattle.plans.specs.Volumes.{Carries}
 use Rattle.plans.specs.declared.Carried.{Carried}
 use Rattle.widths.specs.declared.Request.{Request}
+use Rattle.cabinets.specs.Calls.{secondsAnswer, secondsAfter}
 use Rattle.printed.specs.declared.Printed.{Printed}
 use Rattle.printed.specs.Way.{PrintsAnswer}
 use Rattle.exports.specs.declared.CorbatanPlan.{CorbatanPlan}
@@ -25,6 +26,11 @@ use Rattle.exports.specs.Flat.{flatPlan, flatCarried, flatReading, flatW
 pub record FlatRequested (request : Request) (l : Lists) (entry exit : List ℕ) (r : CorbatanPlan) : Type 0 where
   pub reply : r ≡ flatPlan (requestAnswer request l (length entry))
   pub after : exit ≡ requestAfter request l entry
+
+-- the five calls for seconds, `corbatan_equal_seconds` and so on: the plan's own numbers, and the seconds in the lent list (02, 2026-06)
+pub record FlatSeconds (request : Request) (l : Lists) (entry exit : List ℕ) (r : CorbatanPlan) : Type 0 where
+  pub reply : r ≡ flatPlan (secondsAnswer request l (length entry))
+  pub after : exit ≡ secondsAfter request l entry
 
 -- `corbatan_volumes`: what the call with volumes answers, and what it leaves in the lent list (02, 2026-03)
 pub record FlatCarries (out back h : ℕ) (l : Lists) (entry exit : List ℕ) (r : CorbatanVolumes) : Type 0 where

@@ -13,11 +13,11 @@ use writer::Writing;
 ghost use mathlib.Core.Path.{_≡_};
 ghost use Rattle.street.specs.Codes.{codeOf, placeOf};
 ghost use Rattle.street.specs.Lists.{typed};
-ghost use Rattle.widths.specs.declared.Request.the-variants.{Equal, Outbound, Inbound, Platoons};
+ghost use Rattle.widths.specs.declared.Request.the-variants.{Equal, Outbound, Inbound, Platoons, Volumes};
 ghost use Rattle.bands.specs.Measure.{measurementOf};
 ghost use Rattle.survey.specs.Typing.{listsReading};
 ghost use Rattle.exports.specs.Flat.{flatPlan, flatCarried, flatMeasure, flatReading, flatWriting};
-ghost use Rattle.exports.specs.Calls.{FlatRequested, FlatCarries, FlatReads, FlatWrites, FlatPrints};
+ghost use Rattle.exports.specs.Calls.{FlatRequested, FlatSeconds, FlatCarries, FlatReads, FlatWrites, FlatPrints};
 
 // A plan's numbers or a refusal's, with document 01's number for the refusal. Widths, B and instants are in halves.
 #[repr(C)]
@@ -231,6 +231,21 @@ fn plan_for(
     plan(plans::plan_for(request, cycle, reds, distances, outbound, inbound, offsets))
 }
 
+// The same in whole seconds: the first entries of the lent list become the seconds at which the signals turn green (02, 2026-06).
+fn seconds_for(
+    request: Request,
+    cycle: u32,
+    reds: &[u32],
+    distances: &[u32],
+    outbound: &[u32],
+    inbound: &[u32],
+    seconds: &mut [u32],
+) -> CorbatanPlan
+    ensures { λ r. ⌜ FlatSeconds request (typed cycle (now (reds .entry)) (now (distances .entry)) (now (outbound .entry)) (now (inbound .entry))) (now (seconds .entry)) (now (seconds .exit)) r ⌝ }
+{
+    plan(cabinets::plan_for(request, cycle, reds, distances, outbound, inbound, seconds))
+}
+
 // The equal plan.
 #[no_mangle]
 pub extern "C" fn corbatan_equal(
@@ -353,6 +368,128 @@ pub extern "C" fn corbatan_volumes(
         headway,
         offsets,
     ))
+}
+
+// The equal plan in whole seconds.
+#[no_mangle]
+pub extern "C" fn corbatan_equal_seconds(
+    cycle: u32,
+    reds: &[u32],
+    distances: &[u32],
+    outbound: &[u32],
+    inbound: &[u32],
+    seconds: &mut [u32],
+) -> CorbatanPlan
+    ensures { λ r. ⌜ FlatSeconds Equal (typed cycle (now (reds .entry)) (now (distances .entry)) (now (outbound .entry)) (now (inbound .entry))) (now (seconds .entry)) (now (seconds .exit)) r ⌝ }
+{
+    seconds_for(
+        Request::Equal,
+        cycle,
+        reds,
+        distances,
+        outbound,
+        inbound,
+        seconds,
+    )
+}
+
+// The plan with a requested outbound width, in whole seconds.
+#[no_mangle]
+pub extern "C" fn corbatan_outbound_seconds(
+    cycle: u32,
+    reds: &[u32],
+    distances: &[u32],
+    outbound: &[u32],
+    inbound: &[u32],
+    width: u32,
+    seconds: &mut [u32],
+) -> CorbatanPlan
+    ensures { λ r. ⌜ FlatSeconds (Outbound width) (typed cycle (now (reds .entry)) (now (distances .entry)) (now (outbound .entry)) (now (inbound .entry))) (now (seconds .entry)) (now (seconds .exit)) r ⌝ }
+{
+    seconds_for(
+        Request::Outbound(width),
+        cycle,
+        reds,
+        distances,
+        outbound,
+        inbound,
+        seconds,
+    )
+}
+
+// The plan with a requested inbound width, in whole seconds.
+#[no_mangle]
+pub extern "C" fn corbatan_inbound_seconds(
+    cycle: u32,
+    reds: &[u32],
+    distances: &[u32],
+    outbound: &[u32],
+    inbound: &[u32],
+    width: u32,
+    seconds: &mut [u32],
+) -> CorbatanPlan
+    ensures { λ r. ⌜ FlatSeconds (Inbound width) (typed cycle (now (reds .entry)) (now (distances .entry)) (now (outbound .entry)) (now (inbound .entry))) (now (seconds .entry)) (now (seconds .exit)) r ⌝ }
+{
+    seconds_for(
+        Request::Inbound(width),
+        cycle,
+        reds,
+        distances,
+        outbound,
+        inbound,
+        seconds,
+    )
+}
+
+// The plan from the lengths of two platoons, in whole seconds.
+#[no_mangle]
+pub extern "C" fn corbatan_platoons_seconds(
+    cycle: u32,
+    reds: &[u32],
+    distances: &[u32],
+    outbound: &[u32],
+    inbound: &[u32],
+    outbound_platoon: u32,
+    inbound_platoon: u32,
+    seconds: &mut [u32],
+) -> CorbatanPlan
+    ensures { λ r. ⌜ FlatSeconds (Platoons «outbound_platoon» «inbound_platoon») (typed cycle (now (reds .entry)) (now (distances .entry)) (now (outbound .entry)) (now (inbound .entry))) (now (seconds .entry)) (now (seconds .exit)) r ⌝ }
+{
+    seconds_for(
+        Request::Platoons(outbound_platoon, inbound_platoon),
+        cycle,
+        reds,
+        distances,
+        outbound,
+        inbound,
+        seconds,
+    )
+}
+
+// The plan for two volumes at a headway, in whole seconds. The largest volumes do not depend on them: `corbatan_volumes` has these.
+#[no_mangle]
+pub extern "C" fn corbatan_volumes_seconds(
+    cycle: u32,
+    reds: &[u32],
+    distances: &[u32],
+    outbound: &[u32],
+    inbound: &[u32],
+    outbound_volume: u32,
+    inbound_volume: u32,
+    headway: u32,
+    seconds: &mut [u32],
+) -> CorbatanPlan
+    ensures { λ r. ⌜ FlatSeconds (Volumes «outbound_volume» «inbound_volume» headway) (typed cycle (now (reds .entry)) (now (distances .entry)) (now (outbound .entry)) (now (inbound .entry))) (now (seconds .entry)) (now (seconds .exit)) r ⌝ }
+{
+    seconds_for(
+        Request::Volumes(outbound_volume, inbound_volume, headway),
+        cycle,
+        reds,
+        distances,
+        outbound,
+        inbound,
+        seconds,
+    )
 }
 
 // The measure of given offsets, which are an input here and not lent.

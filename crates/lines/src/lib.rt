@@ -4,13 +4,14 @@ use widths::Request;
 ghost use Prim.Native.Nat.{_≤_};
 ghost use lib.ListN.{length};
 ghost use mathlib.Core.Path.{_≡_};
-ghost use Rattle.lines.specs.Steps.{maxEntries, maxRoom};
+ghost use Rattle.lines.specs.Steps.{maxEntries, maxRoom, Within};
 
-// What a line asks for: a plan, the measure of its numbers as offsets, the sheet's own bytes, or the plan of rows at a cycle. A line that
-// is not served is bad.
+// What a line asks for: a plan, a plan in whole seconds, the measure of its numbers as offsets, the sheet's own bytes, or the plan of rows
+// at a cycle. A line that is not served is bad.
 pub enum Call {
     Bad,
     Plan(Request),
+    Seconds(Request),
     Measure,
     Write,
     Survey(u32),
@@ -33,7 +34,7 @@ impl Line {
     pub const MAX_BYTES: usize = 4_096;
 }
 
-// What is lent for a line: nothing, a list of offsets or a list of bytes.
+// What is lent for a line: nothing, a list for offsets or seconds, or a list of bytes.
 enum Lent {
     Nothing,
     Offsets,
@@ -236,7 +237,7 @@ fn line_end(bytes: &[u8], from: usize, lent: Lent) -> Ending
 // A line with so many numbers.
 fn line_from(bytes: &[u8], from: usize, least: usize, most: usize, lent: Lent) -> Line
     requires { ⌜ from ≤ length (now bytes) ⌝ }
-    ensures { λ r. ⌜ (r .at ≤ length (now (bytes .entry))) × (r .room ≤ maxRoom) × (r .count ≤ maxEntries) × (length (r .numbers) ≡ maxEntries) ⌝ }
+    ensures { λ r. ⌜ Within (now (bytes .entry)) r ⌝ }
 {
     let list = numbers(bytes, from);
     let count = list.count;
@@ -264,50 +265,73 @@ fn with_call(line: Line, call: Call) -> Asked
     }
 }
 
-// A request for a plan. A line with none of its words is bad.
-fn plan_asked(case: &[u8]) -> Asked
-    ensures { λ r. ⌜ (r .line .at ≤ length (now (case .entry))) × (r .line .room ≤ maxRoom) × (r .line .count ≤ maxEntries) × (length (r .line .numbers) ≡ maxEntries) ⌝ }
+// A line for a plan, with so many numbers.
+fn plan_line(case: &[u8], from: usize, count: usize) -> Line
+    requires { ⌜ from ≤ length (now case) ⌝ }
+    ensures { λ r. ⌜ Within (now (case .entry)) r ⌝ }
 {
-    let equal = past(case, 0, b"equal");
+    line_from(case, from, count, count, Lent::Offsets)
+}
+
+// The request for a plan that stands at an index. A line with none of its words there is bad.
+fn plan_asked(case: &[u8], from: usize) -> Asked
+    requires { ⌜ from ≤ length (now case) ⌝ }
+    ensures { λ r. ⌜ Within (now (case .entry)) (r .line) ⌝ }
+{
+    let equal = past(case, from, b"equal");
     if equal > 0 {
-        return with_call(
-            line_from(case, equal, 0, 0, Lent::Offsets),
-            Call::Plan(Request::Equal),
-        );
+        return with_call(plan_line(case, equal, 0), Call::Plan(Request::Equal));
     }
-    let outbound = past(case, 0, b"outbound");
+    let outbound = past(case, from, b"outbound");
     if outbound > 0 {
-        let rest = line_from(case, outbound, 1, 1, Lent::Offsets);
+        let rest = plan_line(case, outbound, 1);
         let numbers = rest.numbers;
         return with_call(rest, Call::Plan(Request::Outbound(numbers[0])));
     }
-    let inbound = past(case, 0, b"inbound");
+    let inbound = past(case, from, b"inbound");
     if inbound > 0 {
-        let rest = line_from(case, inbound, 1, 1, Lent::Offsets);
+        let rest = plan_line(case, inbound, 1);
         let numbers = rest.numbers;
         return with_call(rest, Call::Plan(Request::Inbound(numbers[0])));
     }
-    let platoons = past(case, 0, b"platoons");
+    let platoons = past(case, from, b"platoons");
     if platoons > 0 {
-        let rest = line_from(case, platoons, 2, 2, Lent::Offsets);
+        let rest = plan_line(case, platoons, 2);
         let numbers = rest.numbers;
         return with_call(rest, Call::Plan(Request::Platoons(numbers[0], numbers[1])));
     }
-    let volumes = past(case, 0, b"volumes");
+    let volumes = past(case, from, b"volumes");
     if volumes > 0 {
-        let rest = line_from(case, volumes, 3, 3, Lent::Offsets);
+        let rest = plan_line(case, volumes, 3);
         let numbers = rest.numbers;
         return with_call(
             rest,
             Call::Plan(Request::Volumes(numbers[0], numbers[1], numbers[2])),
         );
     }
-    with_call(line_from(case, 0, 0, 0, Lent::Nothing), Call::Bad)
+    with_call(plan_line(case, from, 0), Call::Bad)
+}
+
+// The same in whole seconds, for a line whose words from an index on ask for a plan.
+fn seconds_asked(case: &[u8], from: usize) -> Asked
+    requires { ⌜ from ≤ length (now case) ⌝ }
+    ensures { λ r. ⌜ Within (now (case .entry)) (r .line) ⌝ }
+{
+    let asked = plan_asked(case, from);
+    let call = asked.call;
+    let line = asked.line;
+    match call {
+        Call::Plan(request) => Asked {
+            call: Call::Seconds(request),
+            line,
+        },
+        _ => asked,
+    }
 }
 
 // The request of a case.
 pub fn request(case: &[u8]) -> Asked
-    ensures { λ r. ⌜ (r .line .at ≤ length (now (case .entry))) × (r .line .room ≤ maxRoom) × (r .line .count ≤ maxEntries) × (length (r .line .numbers) ≡ maxEntries) ⌝ }
+    ensures { λ r. ⌜ Within (now (case .entry)) (r .line) ⌝ }
 {
     let measure = past(case, 0, b"measure");
     if measure > 0 {
@@ -322,11 +346,15 @@ pub fn request(case: &[u8]) -> Asked
     }
     let survey = past(case, 0, b"survey");
     if survey > 0 {
-        let rest = line_from(case, survey, 1, 1, Lent::Offsets);
+        let rest = plan_line(case, survey, 1);
         let numbers = rest.numbers;
         return with_call(rest, Call::Survey(numbers[0]));
     }
-    plan_asked(case)
+    let seconds = past(case, 0, b"seconds ");
+    if seconds > 0 {
+        return seconds_asked(case, seconds);
+    }
+    plan_asked(case, 0)
 }
 
 // What a hexadecimal digit stands for, its letters being small ones; 16 for any other byte.

@@ -11,7 +11,7 @@ use Rattle.road.specs.Limits.{minSignals, maxSignals}
 use Rattle.street.specs.Limits.{minCycle, maxCycle}
 use Rattle.street.specs.Checks.{within, unlessAt, unless, orNext, countCheck, roomCheck, cycleCheck}
 use Rattle.street.specs.declared.Code.{Code}
-use Rattle.street.specs.declared.Code.the-variants.{Sheet, Count, Room, Cycle, Red, Distance, Speed, Platoon, Width, Offset, Volume, Survey}
+use Rattle.street.specs.declared.Code.the-variants.{Sheet, Count, Room, Cycle, Red, Distance, Speed, Platoon, Width, Offset, Volume, Survey, Seconds}
 use Rattle.street.specs.Codes.{codeNumber}
 use Rattle.street.specs.declared.Verdict.{Verdict}
 use Rattle.street.specs.declared.Verdict.the-variants.{Passed, Refused}
@@ -93,3 +93,4 @@ code-some Width = omega arith
 code-some Offset = omega arith
 code-some Volume = omega arith
 code-some Survey = omega arith
+code-some Seconds = omega arith

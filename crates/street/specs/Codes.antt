@@ -1,7 +1,7 @@
 -- A verdict in numbers (01, 'Codes, in order of checking'): every call's reply has these two first.
 use Prim.Native.Nat.{ℕ}
 use Rattle.street.specs.declared.Code.{Code}
-use Rattle.street.specs.declared.Code.the-variants.{Sheet, Count, Room, Cycle, Red, Distance, Speed, Platoon, Width, Offset, Volume, Survey}
+use Rattle.street.specs.declared.Code.the-variants.{Sheet, Count, Room, Cycle, Red, Distance, Speed, Platoon, Width, Offset, Volume, Survey, Seconds}
 use Rattle.street.specs.declared.Verdict.{Verdict}
 use Rattle.street.specs.declared.Verdict.the-variants.{Passed, Refused}
 
@@ -19,6 +19,7 @@ codeNumber Width = 9
 codeNumber Offset = 10
 codeNumber Volume = 11
 codeNumber Survey = 12
+codeNumber Seconds = 13
 
 -- the code of a verdict: its refusal's number, 0 where every check passed
 abbrev pub codeOf : Verdict → ℕ

@@ -28,6 +28,7 @@ pub enum Code {
     Offset,
     Volume,
     Survey,
+    Seconds,
 }
 
 // A numbered refusal: what was wrong, and at which signal or link, counted from 1; 0 where the code has no place.
@@ -59,6 +60,7 @@ pub fn code_number(code: Code) -> u32
         Code::Offset => 10,
         Code::Volume => 11,
         Code::Survey => 12,
+        Code::Seconds => 13,
     }
 }
 

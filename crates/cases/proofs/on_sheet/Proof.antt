@@ -12,14 +12,17 @@ entry c = c .before .before .before .before .before .before
 held : (c : tie.After-numbers) → Held (c .before .before .before .before .read .result .sheet)
 held c = reading-held (c .before .before .before .before .read .ensures) (c .before .before .enum-told .given .1)
 
+planned-in-halves-requires : tie.Need-planned-in-halves-requires
+planned-in-halves-requires c κs = held (c .before .before .before)
+
 planned-requires : tie.Need-planned-requires
-planned-requires c κs = held (c .before .before .before)
+planned-requires c κs = held (c .before .before .before .before)
 
 rewritten-requires : tie.Need-rewritten-requires
-rewritten-requires c κs = (held (c .before .before .before), entry (c .before .before .before) .pre .0)
+rewritten-requires c κs = (held (c .before .before .before .before), entry (c .before .before .before .before) .pre .0)
 
 measured-requires : tie.Need-measured-requires
-measured-requires c κs = (held (c .before .before), entry (c .before .before) .pre .1, entry (c .before .before) .pre .2)
+measured-requires c κs = (held (c .before .before .before), entry (c .before .before .before) .pre .1, entry (c .before .before .before) .pre .2)
 
 pub on-sheet-spec : {M : Type 1} → statement M
 on-sheet-spec =
@@ -30,10 +33,13 @@ on-sheet-spec =
     (λ c κs. search needs)
     (λ c. search needs)
     (λ c. search needs)
+    planned-in-halves-requires
+    (λ c. search needs)
     planned-requires
     (λ c. search needs)
     rewritten-requires
     measured-requires
+    (λ c. search needs)
     (λ c. search needs)
     (λ c. search needs)
     (λ c. search needs)

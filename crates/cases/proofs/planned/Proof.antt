@@ -9,23 +9,23 @@ use borrow.Author.Needs.{needs}
 use Rattle.cases.proofs.planned.Statement.{statement}
 use Rattle.cases.proofs.planned.Tie as tie
 
-slice-aggregate-plan-for : tie.Need-slice-aggregate-plan-for
-slice-aggregate-plan-for c = reds-part _ (c .before .before .before .before .before .before .pre)
+slice-aggregate-answered : tie.Need-slice-aggregate-answered
+slice-aggregate-answered c = reds-part _ (c .before .before .before .before .before .before .pre)
 
-slice-aggregate-plan-for-2 : tie.Need-slice-aggregate-plan-for-2
-slice-aggregate-plan-for-2 c = distances-part _ (c .before .before .before .before .before .before .before .pre)
+slice-aggregate-answered-2 : tie.Need-slice-aggregate-answered-2
+slice-aggregate-answered-2 c = distances-part _ (c .before .before .before .before .before .before .before .pre)
 
-slice-aggregate-plan-for-3 : tie.Need-slice-aggregate-plan-for-3
-slice-aggregate-plan-for-3 c = outbound-part _ (c .before .before .before .before .before .before .before .before .pre)
+slice-aggregate-answered-3 : tie.Need-slice-aggregate-answered-3
+slice-aggregate-answered-3 c = outbound-part _ (c .before .before .before .before .before .before .before .before .pre)
 
-slice-aggregate-plan-for-4 : tie.Need-slice-aggregate-plan-for-4
-slice-aggregate-plan-for-4 c = inbound-part _ (c .before .before .before .before .before .before .before .before .before .pre)
+slice-aggregate-answered-4 : tie.Need-slice-aggregate-answered-4
+slice-aggregate-answered-4 c = inbound-part _ (c .before .before .before .before .before .before .before .before .before .pre)
 
-array-borrow-prefix-offsets : tie.Need-array-borrow-prefix-offsets
-array-borrow-prefix-offsets c = lent-le (c .before .before .before .before .before .before .before .before .before .args .room) _ (c .before .before .before .before .lent .ensures)
+array-borrow-prefix-list : tie.Need-array-borrow-prefix-list
+array-borrow-prefix-list c = lent-le (c .before .before .before .before .before .before .before .before .before .args .room) _ (c .before .before .before .before .lent .ensures)
 
-slice-aggregate-plan-for-5 : tie.Need-slice-aggregate-plan-for-5
-slice-aggregate-plan-for-5 c =
+slice-aggregate-answered-5 : tie.Need-slice-aggregate-answered-5
+slice-aggregate-answered-5 c =
     let k = c .before .before .before .before .before .lent in
     sym (length-take-le (k .result) (replicate maxSignals 0) (lent-le (c .before .before .before .before .before .before .before .before .before .before .args .room) _ (k .ensures)))
 
@@ -39,19 +39,16 @@ planned-spec =
     (λ c. search needs)
     (λ c κs. search needs)
     (λ c. search needs)
-    slice-aggregate-plan-for
+    slice-aggregate-answered
     (λ c. search needs)
-    slice-aggregate-plan-for-2
+    slice-aggregate-answered-2
     (λ c. search needs)
-    slice-aggregate-plan-for-3
+    slice-aggregate-answered-3
     (λ c. search needs)
-    slice-aggregate-plan-for-4
-    array-borrow-prefix-offsets
-    slice-aggregate-plan-for-5
+    slice-aggregate-answered-4
+    array-borrow-prefix-list
+    slice-aggregate-answered-5
     (λ c κs. search needs)
     (λ c κs. search needs)
     show-requires
-    (λ c. search needs)
-    (λ c κs. search needs)
-    (λ c. search needs)
     (λ c. search needs))

@@ -1,5 +1,4 @@
 -- `exports::plan_for` meets its contract: the reply is that of `plans::plan_for` in C's struct, and the list is as that call left it. Assumes nothing.
-use Rattle.street.specs.Lists.{typed}
 use Rattle.exports.proofs.Laws.{requested-flat}
 use borrow.Author.Needs.{needs}
 use Rattle.exports.proofs.plan_for.Statement.{statement}
@@ -15,11 +14,7 @@ same-length : tie.Need-same-length
 same-length c = search needs
 
 returns : tie.Need-returns
-returns c =
-    let start = c .before .before .before .before .before .before .before .before .before .before in
-    let l = typed (start .args .cycle) (start .args .reds .now) (start .args .distances .now) (start .args .outbound .now) (start .args .inbound .now) in
-    let called = c .before .before .before .plan-for in
-    requested-flat (start .args .request) l (start .args .offsets .now) _ (called .result) (c .plan .result) (called .ensures) (c .plan .ensures)
+returns c = requested-flat (c .before .before .before .plan-for .ensures) (c .plan .ensures)
 
 pub plan-for-spec : {M : Type 1} → statement M
 plan-for-spec = tie.close (tie.spec plan-for-requires plan-requires same-length returns)

@@ -20,7 +20,7 @@ use Rattle.promises.proofs.Streets.Passing.{fit}
 use Rattle.promises.proofs.Streets.Directions.{wayIn, Direction}
 
 -- of k departures that pass each one is clear, and so is one that differs from it by whole turns
-turned : (w : Way) → Proper w → (x y i k : ℕ) → i < k → Turns (w .around) x (y + i) → Passes w y k → clear w x ≡ true
+pub turned : (w : Way) → Proper w → (x y i k : ℕ) → i < k → Turns (w .around) x (y + i) → Passes w y k → clear w x ≡ true
 unfolding stretch
 turned w proper x y i k l turns passes =
     let one = part w i (k - 1) y k (omega arith) (omega arith) passes in

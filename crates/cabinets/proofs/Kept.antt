@@ -1,0 +1,154 @@
+-- The promises of a reply and of the seconds beside it. Code 0 is given only where every check passed; then the reply is a plan's, and each entry is the second of the plan's own offset. So each red starts
+-- 10 halves less some η of 0 to 19 after the plan's, and the named bands keep what is left. Assumes nothing.
+use Prim.Native.Nat.{ℕ, _+_, _-_, _*_, _<_}
+use mathlib.Core.Path.{_≡_, refl, sym, ap, subst, _∙_}
+use mathlib.Core.List.{List, [], _∷_, _++_}
+use native.Mathlib.Omega.{arith}
+use lib.ListN.{length, drop, getD}
+use Rattle.circle.specs.Over.{listBelow}
+use Rattle.circle.specs.Method.{reference, redStart, redEnd}
+use Rattle.circle.proofs.Numbers.{man-turns, getD-listBelow}
+use Rattle.circle.proofs.Formulas.{reference-lt}
+use Rattle.street.specs.Lists.{Lists, signals}
+use Rattle.street.specs.Codes.{codeOf}
+use Rattle.street.specs.Checks.{firstFault, openingChecks, numberChecks, planChecks, written}
+use Rattle.street.specs.Streets.{timed, m}
+use Rattle.street.specs.declared.Verdict.{Verdict}
+use Rattle.street.specs.declared.Verdict.the-variants.{Passed, Refused}
+use Rattle.street.proofs.CheckLaws.{code-some}
+use Rattle.street.proofs.Passed.{first-passed, rest-passed, first-of-both}
+use Rattle.widths.specs.Checks.{requestCheck}
+use Rattle.widths.specs.Moved.{shiftOf, outboundWidth, inboundWidth}
+use Rattle.widths.specs.declared.Request.{Request}
+use Rattle.widths.specs.declared.Shift.{Shift}
+use Rattle.offsets.specs.Moved.{movedOffset}
+use Rattle.plans.specs.Answers.{planVerdict, planNumbers, answered}
+use Rattle.plans.specs.Requests.{movedPlan, requestAfter}
+use Rattle.plans.specs.declared.Plan.{Plan}
+use Rattle.plans.specs.declared.Answer.{Answer}
+use Rattle.promises.specs.Exact.{Ways, roundedWays, exactWays}
+use Rattle.promises.proofs.Streets.Passing.{fit, rising}
+use Rattle.promises.proofs.Streets.Directions.{wayIn, Near, waysBy, near-rounded, near-exact}
+use Rattle.promises.proofs.Kept.{InRange, plan-bands}
+use Rattle.promises.proofs.Replies.Calls.{reply-told}
+use Rattle.seconds.specs.Seconds.{secondHalves, secondsCheck}
+use Rattle.seconds.proofs.SecondLaws.{nudged}
+use Rattle.cabinets.specs.Calls.{secondsOf, secondsChecks, InSeconds}
+use Rattle.cabinets.specs.Kept.{keptOffset, ClearBetween, StretchInside, KeptInSeconds, SecondsRounded, SecondsExact, LosesAtMost, AtMostTwenty}
+use Rattle.cabinets.proofs.CallLaws.{judged, as-plan}
+use Rattle.cabinets.proofs.Nudged.{Nudges, clear-between, stretch-inside, short}
+
+-- code 0 is that of no refusal
+no-code : (v : Verdict) → codeOf v ≡ 0 → v ≡ Passed
+no-code Passed e = refl
+no-code (Refused f) e = absurd (omega (arith, code-some (f .code)))
+
+-- what a reply with code 0 and the lent list say: the cycle is a whole number of seconds, the reply is that of a plan, and the entries are its offsets' seconds
+pub record Said (l : Lists) (room : ℕ) (shift : Shift) (exit : List ℕ) (r : Answer) : Type 0 where
+  pub whole : secondsCheck (l .cycle) ≡ Passed
+  pub passed : planChecks l room ≡ Passed
+  pub range : InRange (timed l) shift
+  pub numbers : movedPlan shift (timed l) (m l) ≡ planNumbers r .plan
+  pub seconds : (j : ℕ) → j < signals l → getD exit j 0 ≡ secondsOf 0 (timed l) (movedOffset shift (timed l)) j
+
+pub reply-said :
+    (asked : Request) (l : Lists) (entry exit : List ℕ) (r : Answer) → InSeconds asked l entry exit r → planNumbers r .code ≡ 0 →
+    Said l (length entry) (shiftOf asked (timed l)) exit r
+reply-said asked l entry exit r call code =
+    let s = timed l in
+    let room = length entry in
+    let shift = shiftOf asked s in
+    let plan = movedPlan shift s (m l) in
+    let v = secondsChecks asked l room in
+    let rest = secondsCheck (l .cycle) ∷ (numberChecks l ++ (requestCheck asked s ∷ [])) in
+    let all : v ≡ Passed = sym (judged v plan) ∙ sym (ap planVerdict (call .reply)) ∙ no-code (planVerdict r) code in
+    let both = first-of-both (openingChecks l room) rest ∙ all in
+    let whole = first-passed (secondsCheck (l .cycle)) _ (rest-passed (firstFault (openingChecks l room)) (firstFault rest) both) in
+    let reply = call .reply ∙ ap (λ w. answered w plan) (as-plan asked l room whole) in
+    let told = reply-told asked l entry (requestAfter asked l entry) r (record { reply = reply; after = refl }) code in
+    record {
+      whole = whole;
+      passed = told .passed;
+      range = told .range;
+      numbers = told .numbers;
+      seconds =
+          λ j h.
+          let f = secondsOf 0 s (movedOffset shift s) in
+          ap (λ (x : List ℕ). getD x j 0) (call .after ∙ ap (λ w. written w (listBelow (signals l) f) entry) all)
+          ∙ getD-listBelow (signals l) f (drop (length (listBelow (signals l) f)) entry) j 0 h;
+    }
+
+-- so the offsets that the cabinets keep have each red start 10 halves less some η after the plan's
+module _ (l : Lists) (room : ℕ) (shift : Shift) (exit : List ℕ) (r : Answer) (said : Said l room shift exit r) where
+  nudges : (j : ℕ) → j < signals l → Nudges l (movedOffset shift (timed l)) (keptOffset l exit) j
+  unfolding redStart
+  nudges j h =
+      let s = timed l in
+      let H : ℕ = 2 * l .cycle in
+      let red = s .red j in
+      let f = movedOffset shift s j in
+      let around : 0 < H = omega (arith, fit l room (said .passed) .turns) in
+      let some : 0 < l .cycle = omega (arith, fit l room (said .passed) .turns) in
+      let nudge = nudged (l .cycle) 0 f red some (said .whole) in
+      let kept = man-turns H (secondHalves * getD exit j 0) red around in
+      let starts = man-turns H (keptOffset l exit j) red around in
+      let started = man-turns H f red around in
+      record {
+        η = nudge .η;
+        within = nudge .within;
+        turns =
+            record {
+              p = starts .p + kept .p + nudge .turns .p + started .q;
+              q = starts .q + kept .q + nudge .turns .q + started .p;
+              eq = omega (arith, starts .eq, kept .eq, nudge .turns .eq, started .eq, said .seconds j h);
+            };
+      }
+
+  module _ (N lost : ℕ) {out back : ℕ → ℕ} (near : Near l N lost out back) where
+    kept : KeptInSeconds (waysBy l N out back) (keptOffset l exit) (planNumbers r .plan) lost
+    kept = subst (λ p. KeptInSeconds (waysBy l N out back) (keptOffset l exit) p lost) (said .numbers) of-plan
+      where
+        of-plan : KeptInSeconds (waysBy l N out back) (keptOffset l exit) (movedPlan shift (timed l) (m l)) lost
+        of-plan =
+            let s = timed l in
+            let c = reference s in
+            let f : ℕ → ℕ = movedOffset shift s in
+            let g : ℕ → ℕ = keptOffset l exit in
+            let ok = fit l room (said .passed) in
+            let named = plan-bands s ok (rising l room (said .passed)) f shift (λ j h. refl) (said .range) in
+            let below = reference-lt s (ok .some) in
+            let from-1 : c ≡ c + 1 - 1 = omega arith in
+            let v = outboundWidth shift s in
+            let v′ = inboundWidth shift s in
+            let to = wayIn l N (λ j. N * g j) out in
+            let fro = wayIn l N (λ j. N * g j) back in
+            record {
+              outbound-clear = subst (λ (k : ℕ). ClearBetween N to k (redEnd s c (f c)) 0 v (lost + 10) (lost + 9)) from-1 (clear-between l room (said .passed) N lost (near .some) (near .outwards) f g nudges c (redEnd s c (f c)) 0 v below (named .out));
+              inbound-clear = subst (λ (k : ℕ). ClearBetween N fro k (redStart s c (f c)) v′ v′ (lost + 10) (lost + 9)) from-1 (clear-between l room (said .passed) N lost (near .some) (near .inwards) f g nudges c (redStart s c (f c)) v′ v′ below (named .back));
+              outbound-stretch = subst (λ (k : ℕ). StretchInside N to k (redEnd s c (f c)) 0 v (v - (lost + 19))) from-1 (stretch-inside l room (said .passed) N lost (near .some) (near .outwards) f g nudges c (redEnd s c (f c)) 0 v below (named .out));
+              inbound-stretch = subst (λ (k : ℕ). StretchInside N fro k (redStart s c (f c)) v′ v′ (v′ - (lost + 19))) from-1 (stretch-inside l room (said .passed) N lost (near .some) (near .inwards) f g nudges c (redStart s c (f c)) v′ v′ below (named .back));
+              outbound-short = short l room (said .passed) N lost (near .some) (near .outwards) f g nudges c (redEnd s c (f c)) 0 v below (named .out);
+              inbound-short = short l room (said .passed) N lost (near .some) (near .inwards) f g nudges c (redStart s c (f c)) v′ v′ below (named .back);
+            }
+
+pub seconds-rounded : SecondsRounded
+seconds-rounded asked l entry exit r call code N some =
+    let said = reply-said asked l entry exit r call code in
+    kept l (length entry) (shiftOf asked (timed l)) exit r said N 0 (near-rounded l (length entry) (said .passed) N some)
+
+pub seconds-exact : SecondsExact
+seconds-exact asked l entry exit r call code N fine =
+    let said = reply-said asked l entry exit r call code in
+    let lost = ap (λ p. p .rounded) (said .numbers) in
+    subst (KeptInSeconds (exactWays l N) (keptOffset l exit) (planNumbers r .plan)) lost
+    (kept l (length entry) (shiftOf asked (timed l)) exit r said N (m l) (near-exact l (length entry) (said .passed) N fine))
+
+-- 19 is within 20
+within-20 : (w : Ways) (f : ℕ → ℕ) (p : Plan) (r : ℕ) → KeptInSeconds w f p r → LosesAtMost (r + 20) w f p
+within-20 w f p r k = (omega (arith, k .outbound-short), omega (arith, k .inbound-short))
+
+pub at-most-twenty : AtMostTwenty
+at-most-twenty asked l entry exit r call code = (
+  λ N some. within-20 (roundedWays l N) (keptOffset l exit) (planNumbers r .plan) 0 (seconds-rounded asked l entry exit r call code N some),
+  λ N fine. within-20 (exactWays l N) (keptOffset l exit) (planNumbers r .plan) (planNumbers r .plan .rounded) (seconds-exact asked l entry exit r call code N fine),
+)

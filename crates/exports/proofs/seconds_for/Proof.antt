@@ -1,0 +1,20 @@
+-- `exports::seconds_for` meets its contract: the reply is that of `cabinets::plan_for` in C's struct, and the list is as that call left it. Assumes nothing.
+use Rattle.exports.proofs.Laws.{seconds-flat}
+use borrow.Author.Needs.{needs}
+use Rattle.exports.proofs.seconds_for.Statement.{statement}
+use Rattle.exports.proofs.seconds_for.Tie as tie
+
+plan-for-requires : tie.Need-plan-for-requires
+plan-for-requires c κs = search needs
+
+plan-requires : tie.Need-plan-requires
+plan-requires c κs = search needs
+
+same-length : tie.Need-same-length
+same-length c = search needs
+
+returns : tie.Need-returns
+returns c = seconds-flat (c .before .before .before .plan-for .ensures) (c .plan .ensures)
+
+pub seconds-for-spec : {M : Type 1} → statement M
+seconds-for-spec = tie.close (tie.spec plan-for-requires plan-requires same-length returns)
