@@ -242,7 +242,7 @@ fn the_pages_tables_can_be_asked_as_they_stand() {
     }
     let shown = examples.text.lines().find(|line| line.starts_with("    printf ")).expect("a command");
     expect(shown, &bash(shown.trim()), 0, &surveys[0][2], TESTED);
-    assert_eq!((lines.len(), paper.len(), surveys.len()), (50, 19, 13));
+    assert_eq!((lines.len(), paper.len(), surveys.len()), (51, 19, 13));
 }
 
 #[test]

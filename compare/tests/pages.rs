@@ -83,7 +83,7 @@ fn examples() -> Vec<(Vec<u8>, String)> {
 #[test]
 fn the_examples_come_out() {
     let examples = examples();
-    assert_eq!(examples.len(), 50 + 13);
+    assert_eq!(examples.len(), 51 + 13);
     let bytes = input(&examples.iter().map(|(case, _)| case).collect::<Vec<_>>());
     let expected: String = examples.iter().map(|(_, reply)| format!("{reply}\n")).collect();
     assert_eq!(output(&bytes), expected, "the model");
@@ -197,6 +197,7 @@ fn the_examples_show_how_greens_start_in_whole_seconds() {
     };
     let ((equal, even), (moved, past), (tied, half)) =
         (started(&a, Ask::Equal), started(&a, Ask::Outbound(80)), started(&a, Ask::Platoons(30, 10)));
+    let (crossing, rested) = started(&street("row-resting-crossing.txt"), Ask::Equal);
     let (served, starts) = started(&lost, Ask::Equal);
     let ([f, g], [r, s]) = ([equal.plan.offsets[0], equal.plan.offsets[1]], [a.reds[0], a.reds[1]]);
     let (offset, late) = (moved.plan.offsets[0], tied.plan.offsets[0]);
@@ -204,6 +205,7 @@ fn the_examples_show_how_greens_start_in_whole_seconds() {
     let [first, second] = [kept(&lost, &served.seconds)[0], kept(&lost, &served.seconds)[1]];
     let ((out, back), b) = (measure(&lost, &[first, second]), served.plan.best);
     assert_eq!((out.width < back.width, half[0] % SECOND, tied.seconds[0]), (true, SECOND / 2, 1));
+    assert_eq!(rested[1], crossing.plan.offsets[1]);
     let told = [
         format!("start at {f} + {r} = {} and {g} + {s} = {} halves,", even[0], even[1]),
         format!("at {} s and at {} s. With 80 outbound", equal.seconds[0], equal.seconds[1]),
@@ -214,6 +216,8 @@ fn the_examples_show_how_greens_start_in_whole_seconds() {
         ),
         format!("past the cycle, second {} of the next.", moved.seconds[0]),
         format!("it is {late}, and its green starts {} past the cycle, half-way", half[0]),
+        format!("rests has its offset, {}, for the start of its green,", crossing.plan.offsets[1]),
+        format!("its green, and gets {}. The next", crossing.seconds[1]),
         format!("greens start at {} and at {}: one goes {up} halves up,", starts[0], starts[1]),
         format!("to {} s, and the other {} back, to {} s.", served.seconds[0], -down, served.seconds[1]),
         format!(

@@ -1,4 +1,4 @@
--- The definitions run on examples: the order of the checks on one street that is mended fault by fault, and street A's seconds. Assumes nothing.
+-- The definitions run on examples: the order of the checks on one street that is mended fault by fault, the seconds of street A, and those of a street with a signal that rests. Assumes nothing.
 use Prim.Native.Nat.{ℕ}
 use mathlib.Core.Path.{_≡_, refl}
 use mathlib.Core.List.{List, [], _∷_, map}
@@ -12,7 +12,7 @@ use Rattle.street.specs.Checks.{countCheck, roomCheck, cycleCheck, redCheck, di
 use Rattle.street.specs.declared.Verdict.{Verdict}
 use Rattle.widths.specs.Checks.{widthCheck}
 use Rattle.widths.specs.declared.Request.the-variants.{Equal, Outbound}
-use Rattle.promises.specs.Rows.{twoSignals, streetA, lent, plan}
+use Rattle.promises.specs.Rows.{twoSignals, streetA, crossing, lent, plan}
 use Rattle.seconds.specs.Seconds.{secondsCheck, secondOf}
 use Rattle.cabinets.specs.Calls.{secondsChecks, secondsAnswer, secondsAfter}
 
@@ -51,3 +51,10 @@ street-a-moved :
     × (secondsAfter (Outbound 80) streetA lent ≡ 1 ∷ 3 ∷ 7 ∷ [])
 unfolding twoSignals streetA lent plan firstBelow sumBelow listBelow u pairWidth b B reference phase offset equalWidth redEnd redStart g inRange chosen outboundLowering lowered otherWidth allBelow overBelow countCheck roomCheck cycleCheck redCheck distanceCheck speedCheck widthCheck secondsCheck secondOf
 street-a-moved = (refl, refl)
+
+-- a crossing that rests at 45 halves and so has its green start there, between a signal whose green starts half-way between two seconds and one that keeps its own
+crossing-rests :
+    (secondsAnswer Equal crossing 3 ≡ plan 3 (pos 1250) 1250 1250 0 220 1580)
+    × (secondsAfter Equal crossing lent ≡ 62 ∷ 2 ∷ 11 ∷ [])
+unfolding crossing lent plan firstBelow sumBelow listBelow u pairWidth b B reference phase offset equalWidth redEnd redStart lowered allBelow overBelow countCheck roomCheck cycleCheck redCheck distanceCheck speedCheck secondsCheck secondOf
+crossing-rests = (refl, refl)

@@ -1,67 +1,12 @@
 -- How the library's contracts carry over to C's structs, for any lists and replies. Assumes nothing.
 use Prim.Native.Nat.{ℕ}
-use mathlib.Core.Path.{_≡_, ap, ap₂, _∙_}
+use mathlib.Core.Path.{_≡_, ap, _∙_}
 use mathlib.Core.List.{List}
-use lib.IntN.{ℤ}
-use Rattle.street.specs.Codes.{codeNumber, codeOf, placeOf}
-use Rattle.street.specs.Lists.{Lists}
-use Rattle.street.specs.declared.Refusal.{Refusal}
-use Rattle.sheet.specs.declared.Reading.{Reading}
-use Rattle.writer.specs.declared.Writing.the-variants as writing
-use Rattle.plans.specs.Answers.{noPlan}
-use Rattle.plans.specs.Requests as plans
-use Rattle.plans.specs.declared.Plan.{Plan}
 use Rattle.plans.specs.declared.Answer.{Answer}
-use Rattle.plans.specs.declared.Answer.the-variants as answer
-use Rattle.widths.specs.declared.Request.{Request}
-use Rattle.bands.specs.Measure.{noBand}
-use Rattle.bands.specs.declared.Measurement.the-variants as measurement
-use Rattle.cabinets.specs.Calls.{InSeconds}
-use Rattle.exports.specs.declared.CorbatanPlan.{CorbatanPlan}
-use Rattle.exports.specs.Flat.{planFields, flatPlan, measureFields, flatMeasure, flatSheet, flatReading, writingFields, flatWriting}
-use Rattle.exports.specs.Calls.{FlatRequested, FlatSeconds}
+use Rattle.flat.specs.declared.CorbatanPlan.{CorbatanPlan}
+use Rattle.flat.specs.Flat.{flatPlan}
+use Rattle.exports.specs.Calls.{FlatAnswer}
 
--- a plan with another B
-abbrev withB : Plan → ℤ → Plan
-withB p z =
-    record {
-      reference = p .reference;
-      b = z;
-      outbound = p .outbound;
-      inbound = p .inbound;
-      rounded = p .rounded;
-      starts = p .starts;
-      ends = p .ends;
-    }
-
--- a plan's fields, whose B is read off its bits
-pub plan-fields : (p : Plan) (b : ℤ) → b ≡ p .b → planFields (record { code = 0; place = 0; plan = withB p b }) ≡ flatPlan (answer.Planned p)
-plan-fields p b e = ap (λ z. planFields (record { code = 0; place = 0; plan = withB p z })) e
-
--- a refusal's fields, by its number
-pub plan-refused :
-    (f : Refusal) (code : ℕ) → code ≡ codeNumber (f .code) →
-    planFields (record { code = code; place = f .place; plan = noPlan }) ≡ flatPlan (answer.Refused f)
-plan-refused f code e = ap (λ k. planFields (record { code = k; place = f .place; plan = noPlan })) e
-
-pub measure-refused :
-    (f : Refusal) (code : ℕ) → code ≡ codeNumber (f .code) →
-    measureFields (record { code = code; place = f .place; outbound = noBand; inbound = noBand }) ≡ flatMeasure (measurement.Refused f)
-measure-refused f code e = ap (λ k. measureFields (record { code = k; place = f .place; outbound = noBand; inbound = noBand })) e
-
-pub writing-refused :
-    (f : Refusal) (code : ℕ) → code ≡ codeNumber (f .code) →
-    writingFields (record { code = code; place = f .place; count = 0 }) ≡ flatWriting (writing.Refused f)
-writing-refused f code e = ap (λ k. writingFields (record { code = k; place = f .place; count = 0 })) e
-
--- what `plans` ensures of an answer, of the struct that holds it
-pub requested-flat : {asked : Request} {l : Lists} {entry exit : List ℕ} {a : Answer} {r : CorbatanPlan} → plans.Requested asked l entry exit a → r ≡ flatPlan a → FlatRequested asked l entry exit r
-requested-flat found e = record { reply = e ∙ ap flatPlan (found .reply); after = found .after }
-
--- the same of what `cabinets` ensures
-pub seconds-flat : {asked : Request} {l : Lists} {entry exit : List ℕ} {a : Answer} {r : CorbatanPlan} → InSeconds asked l entry exit a → r ≡ flatPlan a → FlatSeconds asked l entry exit r
-seconds-flat found e = record { reply = e ∙ ap flatPlan (found .reply); after = found .after }
-
--- a reading with its verdict in numbers
-pub reading-flat : (r : Reading) (code place : ℕ) → code ≡ codeOf (r .verdict) → place ≡ placeOf (r .verdict) → flatSheet code place (r .sheet) ≡ flatReading r
-reading-flat r code place k q = ap₂ (λ n p. flatSheet n p (r .sheet)) k q
+-- what a call of the library ensures of its answer and of the lent list, of the struct that holds the answer
+pub answer-flat : {a a′ : Answer} {list exit : List ℕ} {r : CorbatanPlan} → a ≡ a′ → exit ≡ list → r ≡ flatPlan a → FlatAnswer a′ list exit r
+answer-flat reply after e = record { reply = e ∙ ap flatPlan reply; after = after }

@@ -1,4 +1,3 @@
 -- What the proofs of several functions use, and that each contract settles its call.
 mod Laws
 pub mod Unique
-pub mod Examples

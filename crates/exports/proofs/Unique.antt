@@ -7,27 +7,23 @@ use Rattle.road.specs.Limits.{maxSignals}
 use Rattle.street.specs.Lists.{Lists}
 use Rattle.street.proofs.Unique.{Same, same}
 use Rattle.sheet.proofs.Unique as sheet
-use Rattle.widths.specs.declared.Request.{Request}
+use Rattle.plans.specs.declared.Answer.{Answer}
 use Rattle.plans.proofs.Unique.{carries-unique}
 use Rattle.bands.specs.Measure.{measurementOf}
 use Rattle.survey.specs.Typing.{listsReading}
 use Rattle.printed.proofs.Unique.{prints-answer-unique}
-use Rattle.exports.specs.declared.CorbatanPlan.{CorbatanPlan}
-use Rattle.exports.specs.declared.CorbatanVolumes.{CorbatanVolumes}
-use Rattle.exports.specs.declared.CorbatanMeasure.{CorbatanMeasure}
-use Rattle.exports.specs.declared.CorbatanSheet.{CorbatanSheet}
-use Rattle.exports.specs.declared.CorbatanWriting.{CorbatanWriting}
-use Rattle.exports.specs.declared.CorbatanText.{CorbatanText}
-use Rattle.exports.specs.Flat.{flatCarried, flatMeasure, flatReading, flatText}
-use Rattle.exports.specs.Calls.{FlatRequested, FlatSeconds, FlatCarries, FlatReads, FlatWrites, FlatPrints}
+use Rattle.flat.specs.declared.CorbatanPlan.{CorbatanPlan}
+use Rattle.flat.specs.declared.CorbatanVolumes.{CorbatanVolumes}
+use Rattle.flat.specs.declared.CorbatanMeasure.{CorbatanMeasure}
+use Rattle.flat.specs.declared.CorbatanSheet.{CorbatanSheet}
+use Rattle.flat.specs.declared.CorbatanWriting.{CorbatanWriting}
+use Rattle.flat.specs.declared.CorbatanText.{CorbatanText}
+use Rattle.flat.specs.Flat.{flatCarried, flatMeasure, flatReading, flatText}
+use Rattle.exports.specs.Calls.{FlatAnswer, FlatCarries, FlatReads, FlatWrites, FlatPrints}
 
--- of any request, and so of each of the four calls
-pub requested-unique : (asked : Request) (l : Lists) (entry exit exit′ : List ℕ) (r r′ : CorbatanPlan) → FlatRequested asked l entry exit r → FlatRequested asked l entry exit′ r′ → Same r r′ exit exit′
-requested-unique asked l entry exit exit′ r r′ one other = same (one .reply) (other .reply) (one .after) (other .after)
-
--- of any request in seconds, and so of each of the five calls
-pub seconds-unique : (asked : Request) (l : Lists) (entry exit exit′ : List ℕ) (r r′ : CorbatanPlan) → FlatSeconds asked l entry exit r → FlatSeconds asked l entry exit′ r′ → Same r r′ exit exit′
-seconds-unique asked l entry exit exit′ r r′ one other = same (one .reply) (other .reply) (one .after) (other .after)
+-- of any answer and list, and so of each of the four calls for plans and of the five for seconds
+pub answer-unique : (a : Answer) (list exit exit′ : List ℕ) (r r′ : CorbatanPlan) → FlatAnswer a list exit r → FlatAnswer a list exit′ r′ → Same r r′ exit exit′
+answer-unique a list exit exit′ r r′ one other = same (one .reply) (other .reply) (one .after) (other .after)
 
 pub volumes-unique : (out back h : ℕ) (l : Lists) (entry exit exit′ : List ℕ) (r r′ : CorbatanVolumes) → FlatCarries out back h l entry exit r → FlatCarries out back h l entry exit′ r′ → Same r r′ exit exit′
 volumes-unique out back h l entry exit exit′ r r′ one other =

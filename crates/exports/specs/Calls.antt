@@ -10,27 +10,31 @@ use Rattle.sheet.specs.Reading.{Reads}
 use Rattle.writer.specs.Writing.{writingOf, bytesAfter}
 use Rattle.plans.specs.Requests.{requestAnswer, requestAfter}
 use Rattle.plans.specs.Volumes.{Carries}
+use Rattle.plans.specs.declared.Answer.{Answer}
 use Rattle.plans.specs.declared.Carried.{Carried}
 use Rattle.widths.specs.declared.Request.{Request}
 use Rattle.cabinets.specs.Calls.{secondsAnswer, secondsAfter}
 use Rattle.printed.specs.declared.Printed.{Printed}
 use Rattle.printed.specs.Way.{PrintsAnswer}
-use Rattle.exports.specs.declared.CorbatanPlan.{CorbatanPlan}
-use Rattle.exports.specs.declared.CorbatanVolumes.{CorbatanVolumes}
-use Rattle.exports.specs.declared.CorbatanSheet.{CorbatanSheet}
-use Rattle.exports.specs.declared.CorbatanWriting.{CorbatanWriting}
-use Rattle.exports.specs.declared.CorbatanText.{CorbatanText}
-use Rattle.exports.specs.Flat.{flatPlan, flatCarried, flatReading, flatWriting, flatText}
+use Rattle.flat.specs.declared.CorbatanPlan.{CorbatanPlan}
+use Rattle.flat.specs.declared.CorbatanVolumes.{CorbatanVolumes}
+use Rattle.flat.specs.declared.CorbatanSheet.{CorbatanSheet}
+use Rattle.flat.specs.declared.CorbatanWriting.{CorbatanWriting}
+use Rattle.flat.specs.declared.CorbatanText.{CorbatanText}
+use Rattle.flat.specs.Flat.{flatPlan, flatCarried, flatReading, flatWriting, flatText}
+
+-- a plan's call: the answer in C's struct, and the lent list as the library leaves it
+pub record FlatAnswer (answer : Answer) (list exit : List ℕ) (r : CorbatanPlan) : Type 0 where
+  pub reply : r ≡ flatPlan answer
+  pub after : exit ≡ list
 
 -- `corbatan_equal`, `corbatan_outbound`, `corbatan_inbound` and `corbatan_platoons`
-pub record FlatRequested (request : Request) (l : Lists) (entry exit : List ℕ) (r : CorbatanPlan) : Type 0 where
-  pub reply : r ≡ flatPlan (requestAnswer request l (length entry))
-  pub after : exit ≡ requestAfter request l entry
+abbrev pub FlatRequested : Request → Lists → List ℕ → List ℕ → CorbatanPlan → Type 0
+FlatRequested request l entry = FlatAnswer (requestAnswer request l (length entry)) (requestAfter request l entry)
 
 -- the five calls for seconds, `corbatan_equal_seconds` and so on: the plan's own numbers, and the seconds in the lent list (02, 2026-06)
-pub record FlatSeconds (request : Request) (l : Lists) (entry exit : List ℕ) (r : CorbatanPlan) : Type 0 where
-  pub reply : r ≡ flatPlan (secondsAnswer request l (length entry))
-  pub after : exit ≡ secondsAfter request l entry
+abbrev pub FlatSeconds : Request → Lists → List ℕ → List ℕ → CorbatanPlan → Type 0
+FlatSeconds request l entry = FlatAnswer (secondsAnswer request l (length entry)) (secondsAfter request l entry)
 
 -- `corbatan_volumes`: what the call with volumes answers, and what it leaves in the lent list (02, 2026-03)
 pub record FlatCarries (out back h : ℕ) (l : Lists) (entry exit : List ℕ) (r : CorbatanVolumes) : Type 0 where

@@ -1,220 +1,20 @@
-// The C boundary: each public call as a C function over numbers, lists and flat structs, for include/corbatan.h. A list is a
-// pointer and a count to C. C has no enums with fields, so a reply is one struct, whose code is 0 where nothing was refused.
-use bands::Measurement;
-use plans::Answer;
-use plans::Carried;
+// The C boundary: each public call as a C function over numbers and lists, for include/corbatan.h. A list is a pointer and a count to C,
+// and a reply one of the structs of `flat`.
+use flat::CorbatanMeasure;
+use flat::CorbatanPlan;
+use flat::CorbatanSheet;
+use flat::CorbatanText;
+use flat::CorbatanVolumes;
+use flat::CorbatanWriting;
 use plans::Request;
-use printed::Printed;
-use sheet::Reading;
 use street::Street;
-use street::Verdict;
-use street::code_number;
-use writer::Writing;
 ghost use mathlib.Core.Path.{_≡_};
-ghost use Rattle.street.specs.Codes.{codeOf, placeOf};
 ghost use Rattle.street.specs.Lists.{typed};
 ghost use Rattle.widths.specs.declared.Request.the-variants.{Equal, Outbound, Inbound, Platoons, Volumes};
 ghost use Rattle.bands.specs.Measure.{measurementOf};
 ghost use Rattle.survey.specs.Typing.{listsReading};
-ghost use Rattle.exports.specs.Flat.{flatPlan, flatCarried, flatMeasure, flatReading, flatWriting};
+ghost use Rattle.flat.specs.Flat.{flatMeasure, flatReading};
 ghost use Rattle.exports.specs.Calls.{FlatRequested, FlatSeconds, FlatCarries, FlatReads, FlatWrites, FlatPrints};
-
-// A plan's numbers or a refusal's, with document 01's number for the refusal. Widths, B and instants are in halves.
-#[repr(C)]
-pub struct CorbatanPlan {
-    pub code: u32,
-    pub place: u32,
-    pub reference: u32,
-    pub b: i32,
-    pub outbound: u32,
-    pub inbound: u32,
-    pub rounded: u32,
-    pub starts: u32,
-    pub ends: u32,
-}
-
-// A plan or a refusal, and for each direction the largest volume that its width takes, in vehicles an hour; 0 in a refusal.
-#[repr(C)]
-pub struct CorbatanVolumes {
-    pub plan: CorbatanPlan,
-    pub outbound_volume: u32,
-    pub inbound_volume: u32,
-}
-
-// A measure's numbers or a refusal's, widths and starts in halves.
-#[repr(C)]
-pub struct CorbatanMeasure {
-    pub code: u32,
-    pub place: u32,
-    pub outbound_width: u32,
-    pub outbound_start: u32,
-    pub inbound_width: u32,
-    pub inbound_start: u32,
-}
-
-// A sheet's numbers, not yet judged, or a refusal's. The lists stand inside, so that none has to be lent for them.
-#[repr(C)]
-pub struct CorbatanSheet {
-    pub code: u32,
-    pub place: u32,
-    pub signals: usize,
-    pub cycle: u32,
-    pub reds: [u32; Street::MAX_SIGNALS],
-    pub distances: [u32; Street::MAX_SIGNALS],
-    pub outbound: [u32; Street::MAX_SIGNALS],
-    pub inbound: [u32; Street::MAX_SIGNALS],
-}
-
-// The length of a sheet that was written, or a refusal's numbers, with a length of 0.
-#[repr(C)]
-pub struct CorbatanWriting {
-    pub code: u32,
-    pub place: u32,
-    pub count: usize,
-}
-
-// A printed text: its length, and its bytes with zeros behind them.
-#[repr(C)]
-pub struct CorbatanText {
-    pub count: usize,
-    pub bytes: [u8; Printed::MAX_BYTES],
-}
-
-// The code and place of a verdict, both 0 where nothing was refused.
-struct Mark {
-    code: u32,
-    place: u32,
-}
-
-// Any plan's answer.
-fn plan(answer: Answer) -> CorbatanPlan
-    ensures { λ r. ⌜ r ≡ flatPlan answer ⌝ }
-{
-    match answer {
-        Answer::Planned(p) => CorbatanPlan {
-            code: 0,
-            place: 0,
-            reference: p.reference,
-            b: p.b,
-            outbound: p.outbound,
-            inbound: p.inbound,
-            rounded: p.rounded,
-            starts: p.starts,
-            ends: p.ends,
-        },
-        Answer::Refused(f) => {
-            let code = f.code;
-            CorbatanPlan {
-                code: code_number(code),
-                place: f.place,
-                reference: 0,
-                b: 0,
-                outbound: 0,
-                inbound: 0,
-                rounded: 0,
-                starts: 0,
-                ends: 0,
-            }
-        }
-    }
-}
-
-fn volumes(carried: Carried) -> CorbatanVolumes
-    ensures { λ r. ⌜ r ≡ flatCarried carried ⌝ }
-{
-    let answer = carried.answer;
-    let plan = plan(answer);
-    CorbatanVolumes {
-        plan,
-        outbound_volume: carried.outbound,
-        inbound_volume: carried.inbound,
-    }
-}
-
-fn measure(answer: Measurement) -> CorbatanMeasure
-    ensures { λ r. ⌜ r ≡ flatMeasure answer ⌝ }
-{
-    match answer {
-        Measurement::Found(m) => CorbatanMeasure {
-            code: 0,
-            place: 0,
-            outbound_width: m.outbound.width,
-            outbound_start: m.outbound.start,
-            inbound_width: m.inbound.width,
-            inbound_start: m.inbound.start,
-        },
-        Measurement::Refused(f) => {
-            let code = f.code;
-            CorbatanMeasure {
-                code: code_number(code),
-                place: f.place,
-                outbound_width: 0,
-                outbound_start: 0,
-                inbound_width: 0,
-                inbound_start: 0,
-            }
-        }
-    }
-}
-
-fn writing(answer: Writing) -> CorbatanWriting
-    ensures { λ r. ⌜ r ≡ flatWriting answer ⌝ }
-{
-    match answer {
-        Writing::Wrote(count) => CorbatanWriting {
-            code: 0,
-            place: 0,
-            count,
-        },
-        Writing::Refused(f) => {
-            let code = f.code;
-            CorbatanWriting {
-                code: code_number(code),
-                place: f.place,
-                count: 0,
-            }
-        }
-    }
-}
-
-// A verdict in numbers.
-fn numbered(verdict: Verdict) -> Mark
-    ensures { λ r. ⌜ (r .code ≡ codeOf verdict) × (r .place ≡ placeOf verdict) ⌝ }
-{
-    match verdict {
-        Verdict::Passed => Mark { code: 0, place: 0 },
-        Verdict::Refused(f) => {
-            let code = f.code;
-            Mark {
-                code: code_number(code),
-                place: f.place,
-            }
-        }
-    }
-}
-
-// A reading's numbers, or a refusal's.
-fn read_as(reading: Reading) -> CorbatanSheet
-    ensures { λ r. ⌜ r ≡ flatReading reading ⌝ }
-{
-    let verdict = reading.verdict;
-    let numbers = numbered(verdict);
-    let s = reading.sheet;
-    let reds = s.reds;
-    let distances = s.distances;
-    let outbound = s.outbound;
-    let inbound = s.inbound;
-    CorbatanSheet {
-        code: numbers.code,
-        place: numbers.place,
-        signals: s.signals,
-        cycle: s.cycle,
-        reds,
-        distances,
-        outbound,
-        inbound,
-    }
-}
 
 // The plan of a request in C's struct. The first entries of the lent list become the offsets; a refusal leaves the list as it was.
 fn plan_for(
@@ -228,7 +28,7 @@ fn plan_for(
 ) -> CorbatanPlan
     ensures { λ r. ⌜ FlatRequested request (typed cycle (now (reds .entry)) (now (distances .entry)) (now (outbound .entry)) (now (inbound .entry))) (now (offsets .entry)) (now (offsets .exit)) r ⌝ }
 {
-    plan(plans::plan_for(request, cycle, reds, distances, outbound, inbound, offsets))
+    flat::plan(plans::plan_for(request, cycle, reds, distances, outbound, inbound, offsets))
 }
 
 // The same in whole seconds: the first entries of the lent list become the seconds at which the signals turn green (02, 2026-06).
@@ -243,7 +43,7 @@ fn seconds_for(
 ) -> CorbatanPlan
     ensures { λ r. ⌜ FlatSeconds request (typed cycle (now (reds .entry)) (now (distances .entry)) (now (outbound .entry)) (now (inbound .entry))) (now (seconds .entry)) (now (seconds .exit)) r ⌝ }
 {
-    plan(cabinets::plan_for(request, cycle, reds, distances, outbound, inbound, seconds))
+    flat::plan(cabinets::plan_for(request, cycle, reds, distances, outbound, inbound, seconds))
 }
 
 // The equal plan.
@@ -357,7 +157,7 @@ pub extern "C" fn corbatan_volumes(
 ) -> CorbatanVolumes
     ensures { λ r. ⌜ FlatCarries «outbound_volume» «inbound_volume» headway (typed cycle (now (reds .entry)) (now (distances .entry)) (now (outbound .entry)) (now (inbound .entry))) (now (offsets .entry)) (now (offsets .exit)) r ⌝ }
 {
-    volumes(plans::volumes(
+    flat::volumes(plans::volumes(
         cycle,
         reds,
         distances,
@@ -504,7 +304,7 @@ pub extern "C" fn corbatan_measure(
 ) -> CorbatanMeasure
     ensures { λ r. ⌜ r ≡ flatMeasure (measurementOf (typed cycle (now (reds .entry)) (now (distances .entry)) (now (outbound .entry)) (now (inbound .entry))) (now (offsets .entry))) ⌝ }
 {
-    measure(bands::measure(cycle, reds, distances, outbound, inbound, offsets))
+    flat::measure(bands::measure(cycle, reds, distances, outbound, inbound, offsets))
 }
 
 // The numbers of a sheet's bytes. The arrays are filled where they stand and copied once, into the reply.
@@ -524,7 +324,7 @@ pub extern "C" fn corbatan_read(bytes: &[u8]) -> CorbatanSheet
         &mut inbound,
     );
     let verdict = head.verdict;
-    let numbers = numbered(verdict);
+    let numbers = flat::numbered(verdict);
     CorbatanSheet {
         code: numbers.code,
         place: numbers.place,
@@ -549,7 +349,7 @@ pub extern "C" fn corbatan_survey(
 ) -> CorbatanSheet
     ensures { λ r. ⌜ r ≡ flatReading (listsReading cycle (now (kinds .entry)) (now (positions .entry)) (now (outbound .entry)) (now (inbound .entry)) (now (reds .entry))) ⌝ }
 {
-    read_as(survey::read_lists(cycle, kinds, positions, outbound, inbound, reds))
+    flat::reading(survey::read_lists(cycle, kinds, positions, outbound, inbound, reds))
 }
 
 // The sheet of a street in the first bytes of the lent list; a refusal leaves the list as it was.
@@ -564,7 +364,7 @@ pub extern "C" fn corbatan_write(
 ) -> CorbatanWriting
     ensures { λ r. ⌜ FlatWrites (typed cycle (now (reds .entry)) (now (distances .entry)) (now (outbound .entry)) (now (inbound .entry))) (now (bytes .entry)) (now (bytes .exit)) r ⌝ }
 {
-    writing(writer::write(cycle, reds, distances, outbound, inbound, bytes))
+    flat::writing(writer::write(cycle, reds, distances, outbound, inbound, bytes))
 }
 
 // The printed equal plan of a sheet's bytes, or the line of its refusal. The list for the offsets has room for every street.

@@ -1,6 +1,6 @@
 -- `exports::corbatan_measure` meets its contract: the reply is that of `bands::measure` in C's struct. Assumes nothing.
 use mathlib.Core.Path.{ap, _∙_}
-use Rattle.exports.specs.Flat.{flatMeasure}
+use Rattle.flat.specs.Flat.{flatMeasure}
 use borrow.Author.Needs.{needs}
 use Rattle.exports.proofs.corbatan_measure.Statement.{statement}
 use Rattle.exports.proofs.corbatan_measure.Tie as tie

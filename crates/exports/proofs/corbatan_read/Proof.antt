@@ -1,7 +1,7 @@
 -- `exports::corbatan_read` meets its contract: the head and the columns are those that `sheet::fill` read, and the verdict decides the code and place.
 -- Assumes nothing.
 use Rattle.sheet.specs.Steps.Filled.{assembled}
-use Rattle.exports.proofs.Laws.{reading-flat}
+use Rattle.flat.proofs.Laws.{reading-flat}
 use borrow.Author.Needs.{needs}
 use Rattle.exports.proofs.corbatan_read.Statement.{statement}
 use Rattle.exports.proofs.corbatan_read.Tie as tie

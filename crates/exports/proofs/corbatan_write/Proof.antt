@@ -1,6 +1,6 @@
 -- `exports::corbatan_write` meets its contract: the reply is that of `writer::write` in C's struct, and the list is as that call left it. Assumes nothing.
 use mathlib.Core.Path.{ap, _∙_}
-use Rattle.exports.specs.Flat.{flatWriting}
+use Rattle.flat.specs.Flat.{flatWriting}
 use borrow.Author.Needs.{needs}
 use Rattle.exports.proofs.corbatan_write.Statement.{statement}
 use Rattle.exports.proofs.corbatan_write.Tie as tie

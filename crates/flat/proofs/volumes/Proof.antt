@@ -1,7 +1,7 @@
--- `exports::volumes` meets its contract: the plan's fields are those of the answer, and the volumes stand beside them. Assumes nothing.
+-- `flat::volumes` meets its contract: the plan's fields are those of the answer, and the volumes stand beside them. Assumes nothing.
 use borrow.Author.Needs.{needs}
-use Rattle.exports.proofs.volumes.Statement.{statement}
-use Rattle.exports.proofs.volumes.Tie as tie
+use Rattle.flat.proofs.volumes.Statement.{statement}
+use Rattle.flat.proofs.volumes.Tie as tie
 
 plan-requires : tie.Need-plan-requires
 plan-requires c κs = search needs

@@ -11,12 +11,12 @@ use Rattle.plans.specs.declared.Carried.{Carried}
 use Rattle.bands.specs.Measure as bands
 use Rattle.bands.specs.declared.Measurement.{Measurement}
 use Rattle.printed.specs.declared.Printed.{Printed}
-use Rattle.exports.specs.declared.CorbatanPlan.{CorbatanPlan}
-use Rattle.exports.specs.declared.CorbatanVolumes.{CorbatanVolumes}
-use Rattle.exports.specs.declared.CorbatanMeasure.{CorbatanMeasure}
-use Rattle.exports.specs.declared.CorbatanSheet.{CorbatanSheet}
-use Rattle.exports.specs.declared.CorbatanWriting.{CorbatanWriting}
-use Rattle.exports.specs.declared.CorbatanText.{CorbatanText}
+use Rattle.flat.specs.declared.CorbatanPlan.{CorbatanPlan}
+use Rattle.flat.specs.declared.CorbatanVolumes.{CorbatanVolumes}
+use Rattle.flat.specs.declared.CorbatanMeasure.{CorbatanMeasure}
+use Rattle.flat.specs.declared.CorbatanSheet.{CorbatanSheet}
+use Rattle.flat.specs.declared.CorbatanWriting.{CorbatanWriting}
+use Rattle.flat.specs.declared.CorbatanText.{CorbatanText}
 
 -- a plan's numbers, or a refusal's
 abbrev pub planFields : plans.PlanNumbers → CorbatanPlan

@@ -1,9 +1,9 @@
--- `exports::numbered` meets its contract: each case of the verdict has the code and place that the definitions give it. Assumes nothing.
+-- `flat::numbered` meets its contract: each case of the verdict has the code and place that the definitions give it. Assumes nothing.
 use mathlib.Core.Path.{sym, ap, _∙_}
 use Rattle.street.specs.Codes.{codeOf, placeOf}
 use borrow.Author.Needs.{needs}
-use Rattle.exports.proofs.numbered.Statement.{statement}
-use Rattle.exports.proofs.numbered.Tie as tie
+use Rattle.flat.proofs.numbered.Statement.{statement}
+use Rattle.flat.proofs.numbered.Tie as tie
 
 enum-told : tie.Need-enum-told
 enum-told c = search needs

@@ -1,13 +1,13 @@
--- `exports::plan` meets its contract: each case of the answer has the fields that its numbers have. B is read off its bits and fits them. Assumes nothing.
+-- `flat::plan` meets its contract: each case of the answer has the fields that its numbers have. B is read off its bits and fits them. Assumes nothing.
 use mathlib.Core.Path.{sym, ap, _∙_}
 use mir.Syntax.{w32}
 use mir.Val.{SFits}
 use mir.ValLaws.{toZ-ofZ}
-use Rattle.exports.specs.Flat.{flatPlan}
-use Rattle.exports.proofs.Laws.{plan-fields, plan-refused}
+use Rattle.flat.specs.Flat.{flatPlan}
+use Rattle.flat.proofs.Laws.{plan-fields, plan-refused}
 use borrow.Author.Needs.{needs}
-use Rattle.exports.proofs.plan.Statement.{statement}
-use Rattle.exports.proofs.plan.Tie as tie
+use Rattle.flat.proofs.plan.Statement.{statement}
+use Rattle.flat.proofs.plan.Tie as tie
 
 enum-known-answer : tie.Need-enum-known-answer
 enum-known-answer c = search needs

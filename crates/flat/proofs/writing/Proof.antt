@@ -1,10 +1,10 @@
--- `exports::writing` meets its contract: each case of the answer has the fields that its numbers have. Assumes nothing.
+-- `flat::writing` meets its contract: each case of the answer has the fields that its numbers have. Assumes nothing.
 use mathlib.Core.Path.{sym, ap, _∙_}
-use Rattle.exports.specs.Flat.{flatWriting}
-use Rattle.exports.proofs.Laws.{writing-refused}
+use Rattle.flat.specs.Flat.{flatWriting}
+use Rattle.flat.proofs.Laws.{writing-refused}
 use borrow.Author.Needs.{needs}
-use Rattle.exports.proofs.writing.Statement.{statement}
-use Rattle.exports.proofs.writing.Tie as tie
+use Rattle.flat.proofs.writing.Statement.{statement}
+use Rattle.flat.proofs.writing.Tie as tie
 
 enum-known-answer : tie.Need-enum-known-answer
 enum-known-answer c = search needs

@@ -1,10 +1,10 @@
--- `exports::measure` meets its contract: each case of the measurement has the fields that its numbers have. Assumes nothing.
+-- `flat::measure` meets its contract: each case of the measurement has the fields that its numbers have. Assumes nothing.
 use mathlib.Core.Path.{sym, ap, _∙_}
-use Rattle.exports.specs.Flat.{flatMeasure}
-use Rattle.exports.proofs.Laws.{measure-refused}
+use Rattle.flat.specs.Flat.{flatMeasure}
+use Rattle.flat.proofs.Laws.{measure-refused}
 use borrow.Author.Needs.{needs}
-use Rattle.exports.proofs.measure.Statement.{statement}
-use Rattle.exports.proofs.measure.Tie as tie
+use Rattle.flat.proofs.measure.Statement.{statement}
+use Rattle.flat.proofs.measure.Tie as tie
 
 enum-known-answer : tie.Need-enum-known-answer
 enum-known-answer c = search needs

@@ -4,11 +4,12 @@ use mathlib.Core.List.{[], _∷_}
 use lib.IntN.{pos, negsuc}
 use lib.ListN.{replicate}
 use Rattle.street.specs.declared.Code.the-variants.{Speed, Offset, Survey}
+use Rattle.street.specs.declared.Verdict.the-variants.{Passed, Refused}
+use Rattle.sheet.specs.Reading.{noSheet}
 use Rattle.writer.specs.declared.Writing.the-variants as writing
 use Rattle.plans.specs.declared.Answer.the-variants as answer
 use Rattle.bands.specs.declared.Measurement.the-variants as measurement
-use Rattle.survey.specs.Typing.{noReading}
-use Rattle.exports.specs.Flat.{flatPlan, flatCarried, flatMeasure, flatReading, flatWriting, flatText}
+use Rattle.flat.specs.Flat.{flatPlan, flatCarried, flatMeasure, flatReading, flatWriting, flatText}
 
 plan :
     flatPlan (answer.Planned (record { reference = 2; b = negsuc 99; outbound = 200; inbound = 3; rounded = 1; starts = 5; ends = 15 }))
@@ -39,9 +40,14 @@ unmeasured :
     ≡ record { code = 10; place = 2; «outbound_width» = 0; «outbound_start» = 0; «inbound_width» = 0; «inbound_start» = 0 }
 unmeasured = refl
 
--- a survey whose row 3 is bad: its place goes over to C, and every number is 0
+read :
+    flatReading (record { verdict = Passed; sheet = record { signals = 2; cycle = 100; reds = 40 ∷ 50 ∷ []; distances = 0 ∷ 30000 ∷ []; outbound = 10000 ∷ []; inbound = 15000 ∷ [] } })
+    ≡ record { code = 0; place = 0; signals = 2; cycle = 100; reds = 40 ∷ 50 ∷ []; distances = 0 ∷ 30000 ∷ []; outbound = 10000 ∷ []; inbound = 15000 ∷ [] }
+read = refl
+
+-- a survey whose row 3 is bad: its place goes over to C, beside numbers that are all 0
 unread :
-    flatReading (noReading (record { code = Survey; place = 3 }))
+    flatReading (record { verdict = Refused (record { code = Survey; place = 3 }); sheet = noSheet })
     ≡ record {
       code = 12;
       place = 3;

@@ -1,0 +1,3 @@
+-- What the proofs of several functions use, here and in `exports`, and examples.
+pub mod Laws
+pub mod Examples
