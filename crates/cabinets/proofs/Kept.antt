@@ -1,6 +1,6 @@
 -- The promises of a reply and of the seconds beside it. Code 0 is given only where every check passed; then the reply is a plan's, and each entry is the second of the plan's own offset. So each red starts
 -- 10 halves less some η of 0 to 19 after the plan's, and the named bands keep what is left. Assumes nothing.
-use Prim.Native.Nat.{ℕ, _+_, _-_, _*_, _<_}
+use Prim.Native.Nat.{ℕ, _+_, _-_, _*_, _≤_, _<_}
 use mathlib.Core.Path.{_≡_, refl, sym, ap, subst, _∙_}
 use mathlib.Core.List.{List, [], _∷_, _++_}
 use native.Mathlib.Omega.{arith}
@@ -34,9 +34,9 @@ use Rattle.promises.proofs.Replies.Calls.{reply-told}
 use Rattle.seconds.specs.Seconds.{secondHalves, secondsCheck}
 use Rattle.seconds.proofs.SecondLaws.{nudged}
 use Rattle.cabinets.specs.Calls.{secondsOf, secondsChecks, InSeconds}
-use Rattle.cabinets.specs.Kept.{keptOffset, ClearBetween, StretchInside, KeptInSeconds, SecondsRounded, SecondsExact, LosesAtMost, AtMostTwenty}
+use Rattle.cabinets.specs.Kept.{keptOffset, LosesAtMost, KeptInSeconds, SecondsRounded, SecondsExact, AtMostTwenty}
 use Rattle.cabinets.proofs.CallLaws.{judged, as-plan}
-use Rattle.cabinets.proofs.Nudged.{Nudges, clear-between, stretch-inside, short}
+use Rattle.cabinets.proofs.Nudged.{Nudges, Band, band}
 
 -- code 0 is that of no refusal
 no-code : (v : Verdict) → codeOf v ≡ 0 → v ≡ Passed
@@ -105,31 +105,45 @@ module _ (l : Lists) (room : ℕ) (shift : Shift) (exit : List ℕ) (r : Answer)
       }
 
   module _ (N lost : ℕ) {out back : ℕ → ℕ} (near : Near l N lost out back) where
+    -- what is left of the two bands that the plan names
+    bands :
+        (most : ℕ) → lost + 19 ≤ most →
+        let s = timed l in
+        let c = reference s in
+        let f = movedOffset shift s in
+        Band N (wayIn l N (λ j. N * keptOffset l exit j) out) (c + 1 - 1) (redEnd s c (f c)) 0 (outboundWidth shift s) lost most
+        × Band N (wayIn l N (λ j. N * keptOffset l exit j) back) (c + 1 - 1) (redStart s c (f c)) (inboundWidth shift s) (inboundWidth shift s) lost most
+    bands most enough =
+        let s = timed l in
+        let c = reference s in
+        let f : ℕ → ℕ = movedOffset shift s in
+        let g : ℕ → ℕ = keptOffset l exit in
+        let ok = fit l room (said .passed) in
+        let named = plan-bands s ok (rising l room (said .passed)) f shift (λ j h. refl) (said .range) in
+        let below = reference-lt s (ok .some) in
+        let from-1 : c ≡ c + 1 - 1 = omega arith in
+        let v = outboundWidth shift s in
+        let v′ = inboundWidth shift s in (
+          subst (λ (k : ℕ). Band N (wayIn l N (λ j. N * g j) out) k (redEnd s c (f c)) 0 v lost most) from-1
+              (band l room (said .passed) N lost (near .some) (near .outwards) f g nudges c (redEnd s c (f c)) 0 v below (named .out) most enough),
+          subst (λ (k : ℕ). Band N (wayIn l N (λ j. N * g j) back) k (redStart s c (f c)) v′ v′ lost most) from-1
+              (band l room (said .passed) N lost (near .some) (near .inwards) f g nudges c (redStart s c (f c)) v′ v′ below (named .back) most enough),
+        )
+
+    loses : (most : ℕ) → lost + 19 ≤ most → LosesAtMost most (waysBy l N out back) (keptOffset l exit) (movedPlan shift (timed l) (m l))
+    loses most enough =
+        let (to, fro) = bands most enough in
+        record { outbound-stretch = to .inside; inbound-stretch = fro .inside; outbound-short = to .short; inbound-short = fro .short }
+
+    -- of the reply's own numbers
     kept : KeptInSeconds (waysBy l N out back) (keptOffset l exit) (planNumbers r .plan) lost
-    kept = subst (λ p. KeptInSeconds (waysBy l N out back) (keptOffset l exit) p lost) (said .numbers) of-plan
-      where
-        of-plan : KeptInSeconds (waysBy l N out back) (keptOffset l exit) (movedPlan shift (timed l) (m l)) lost
-        of-plan =
-            let s = timed l in
-            let c = reference s in
-            let f : ℕ → ℕ = movedOffset shift s in
-            let g : ℕ → ℕ = keptOffset l exit in
-            let ok = fit l room (said .passed) in
-            let named = plan-bands s ok (rising l room (said .passed)) f shift (λ j h. refl) (said .range) in
-            let below = reference-lt s (ok .some) in
-            let from-1 : c ≡ c + 1 - 1 = omega arith in
-            let v = outboundWidth shift s in
-            let v′ = inboundWidth shift s in
-            let to = wayIn l N (λ j. N * g j) out in
-            let fro = wayIn l N (λ j. N * g j) back in
-            record {
-              outbound-clear = subst (λ (k : ℕ). ClearBetween N to k (redEnd s c (f c)) 0 v (lost + 10) (lost + 9)) from-1 (clear-between l room (said .passed) N lost (near .some) (near .outwards) f g nudges c (redEnd s c (f c)) 0 v below (named .out));
-              inbound-clear = subst (λ (k : ℕ). ClearBetween N fro k (redStart s c (f c)) v′ v′ (lost + 10) (lost + 9)) from-1 (clear-between l room (said .passed) N lost (near .some) (near .inwards) f g nudges c (redStart s c (f c)) v′ v′ below (named .back));
-              outbound-stretch = subst (λ (k : ℕ). StretchInside N to k (redEnd s c (f c)) 0 v (v - (lost + 19))) from-1 (stretch-inside l room (said .passed) N lost (near .some) (near .outwards) f g nudges c (redEnd s c (f c)) 0 v below (named .out));
-              inbound-stretch = subst (λ (k : ℕ). StretchInside N fro k (redStart s c (f c)) v′ v′ (v′ - (lost + 19))) from-1 (stretch-inside l room (said .passed) N lost (near .some) (near .inwards) f g nudges c (redStart s c (f c)) v′ v′ below (named .back));
-              outbound-short = short l room (said .passed) N lost (near .some) (near .outwards) f g nudges c (redEnd s c (f c)) 0 v below (named .out);
-              inbound-short = short l room (said .passed) N lost (near .some) (near .inwards) f g nudges c (redStart s c (f c)) v′ v′ below (named .back);
-            }
+    kept =
+        let (to, fro) = bands (lost + 19) (omega arith) in
+        subst (λ p. KeptInSeconds (waysBy l N out back) (keptOffset l exit) p lost) (said .numbers)
+        (record { outbound-clear = to .clear _ _ (omega arith) (omega arith); inbound-clear = fro .clear _ _ (omega arith) (omega arith); loses = loses _ (omega arith) })
+
+    in-twenty : LosesAtMost (lost + 20) (waysBy l N out back) (keptOffset l exit) (planNumbers r .plan)
+    in-twenty = subst (λ p. LosesAtMost (lost + 20) (waysBy l N out back) (keptOffset l exit) p) (said .numbers) (loses (lost + 20) (omega arith))
 
 pub seconds-rounded : SecondsRounded
 seconds-rounded asked l entry exit r call code N some =
@@ -143,12 +157,13 @@ seconds-exact asked l entry exit r call code N fine =
     subst (KeptInSeconds (exactWays l N) (keptOffset l exit) (planNumbers r .plan)) lost
     (kept l (length entry) (shiftOf asked (timed l)) exit r said N (m l) (near-exact l (length entry) (said .passed) N fine))
 
--- 19 is within 20
-within-20 : (w : Ways) (f : ℕ → ℕ) (p : Plan) (r : ℕ) → KeptInSeconds w f p r → LosesAtMost (r + 20) w f p
-within-20 w f p r k = (omega (arith, k .outbound-short), omega (arith, k .inbound-short))
-
 pub at-most-twenty : AtMostTwenty
-at-most-twenty asked l entry exit r call code = (
-  λ N some. within-20 (roundedWays l N) (keptOffset l exit) (planNumbers r .plan) 0 (seconds-rounded asked l entry exit r call code N some),
-  λ N fine. within-20 (exactWays l N) (keptOffset l exit) (planNumbers r .plan) (planNumbers r .plan .rounded) (seconds-exact asked l entry exit r call code N fine),
-)
+at-most-twenty asked l entry exit r call code =
+    let said = reply-said asked l entry exit r call code in
+    let lost = ap (λ p. p .rounded) (said .numbers) in
+    let shift = shiftOf asked (timed l) in (
+      λ N some. in-twenty l (length entry) shift exit r said N 0 (near-rounded l (length entry) (said .passed) N some),
+      λ N fine.
+          subst (λ (k : ℕ). LosesAtMost (k + 20) (exactWays l N) (keptOffset l exit) (planNumbers r .plan)) lost
+          (in-twenty l (length entry) shift exit r said N (m l) (near-exact l (length entry) (said .passed) N fine)),
+    )

@@ -77,4 +77,4 @@ seconds-measured asked l entry exit r call code =
     let all = on-cycle l (length entry) (said .passed) g (λ j. man-lt (2 * l .cycle) (pos (secondHalves * getD exit j 0) -ℤ pos (getD (l .reds) j 0)) around) in
     let found : bandNumbers (foundOr Passed (measuredOf s offsets)) ≡ bandNumbers (measurementOf l offsets) = ap (λ v. bandNumbers (foundOr v (measuredOf s offsets))) (sym all) in
     subst (λ n. (n .code ≡ 0) × (p .outbound ≤ n .outbound .width + 19) × (p .inbound ≤ n .inbound .width + 19)) found
-    (refl, omega (arith, kept .outbound-short, out), omega (arith, kept .inbound-short, back))
+    (refl, omega (arith, kept .loses .outbound-short, out), omega (arith, kept .loses .inbound-short, back))

@@ -28,6 +28,12 @@ pub record Nudges (l : Lists) (f g : ℕ → ℕ) (j : ℕ) : Type 0 where
   pub within : η ≤ 19
   pub turns : Turns (2 * l .cycle) (redStart (timed l) j (g j) + η) (redStart (timed l) j (f j) + 10)
 
+-- what is left of a named band of v halves that loses at most so many of them, r by the travel times
+pub record Band (N : ℕ) (w : Way) (c instant a v r most : ℕ) : Type 0 where
+  pub clear : (late early : ℕ) → r + 10 ≤ late → r + 9 ≤ early → ClearBetween N w c instant a v late early
+  pub inside : StretchInside N w c instant a v (v - most)
+  pub short : N * v ≤ width w + N * most
+
 -- no departures are a stretch
 nothing : (w : Way) (x N : ℕ) → stretch w x (N * 0) ≡ true
 unfolding stretch allBelow
@@ -82,8 +88,10 @@ module _
           (x, named .passes x at-c some, at-c)
 
       -- all of it is clear but for r and 10 halves at its start and r and 9 at its end
-      pub clear-between : ClearBetween N (wayIn l N (λ j. N * g j) near) c instant a v (r + 10) (r + 9)
-      clear-between y late early =
+      clear-between : (late early : ℕ) → r + 10 ≤ late → r + 9 ≤ early → ClearBetween N (wayIn l N (λ j. N * g j) near) c instant a v late early
+      clear-between late early from-start from-end y after before =
+          let after-start = mul-le-mul-left N from-start in
+          let before-end = mul-le-mul-left N from-end in
           let z = wayIn l N (λ j. N * g j) near in
           let w = d .window in
           let Nr : ℕ = N * r in
@@ -117,45 +125,54 @@ module _
             eq = omega (arith, ap (λ (t : ℕ). N * t) (at-c .eq), d .finer f .lag c here, d .window .each c (omega arith));
           })
 
-      -- the departures that are left of it where it is wider than what is lost
-      record Left : Type 0 where
-        from : ℕ
-        passes : Passes (wayIn l N (λ j. N * g j) near) from (N * (v - (r + 19)))
-        inside : (i : ℕ) → i < N * (v - (r + 19)) → intoBand N (wayIn l N (λ j. N * g j) near) c instant a (from + i) < N * v
+      -- of what it loses, r halves and 19 and perhaps more
+      module _ (most : ℕ) (enough : r + 19 ≤ most) where
+        -- the departures that are left of it where it is wider than that
+        record Left : Type 0 where
+          from : ℕ
+          passes : Passes (wayIn l N (λ j. N * g j) near) from (N * (v - most))
+          inside : (i : ℕ) → i < N * (v - most) → intoBand N (wayIn l N (λ j. N * g j) near) c instant a (from + i) < N * v
 
-      left : r + 19 < v → Left
-      left wide =
-          let w = d .window in
-          let k : ℕ = N * (v - (r + 19)) in
-          let most = mul-le-mul-left N wide in
-          let (x, p, at-c) = first (omega arith) in
-          let from : ℕ = N * x + (w .moved + 0 + N * 10) in
-          let count : N * v - (N * r + N * 19) ≡ k = omega (arith, mul-sub N v (r + 19)) in
-          let e = subst (Passes (wayIn l N (λ j. N * g j) near) from) count (shrunk 0 (N * r) x v (λ j h. omega (arith, w .within j h)) (omega arith) p) in
-          let fits = mul-le-mul-left N (p .most) in
-          record {
-            from = from;
-            passes = e;
-            inside = λ i h. omega (arith, into x (N * 10 + i) (from + i) at-c (omega arith) (omega (arith, w .within c (omega arith))), w .within c (omega arith));
-          }
+        left : most < v → Left
+        left wide =
+            let w = d .window in
+            let k : ℕ = N * (v - most) in
+            let top : ℕ = N * (most - 19) in
+            let (x, p, at-c) = first (omega arith) in
+            let from : ℕ = N * x + (w .moved + 0 + N * 10) in
+            let all = mul-le-mul-left N wide in
+            let cost = mul-le-mul-left N enough in
+            let parts = mul-sub N most 19 in
+            let small : N * r ≤ top = mul-le-mul-left N (omega arith) in
+            let count : N * v - (top + N * 19) ≡ k = omega (arith, mul-sub N v most) in
+            let e = subst (Passes (wayIn l N (λ j. N * g j) near) from) count (shrunk 0 top x v (λ j h. omega (arith, w .within j h)) (omega arith) p) in
+            let fits = mul-le-mul-left N (p .most) in
+            record {
+              from = from;
+              passes = e;
+              inside = λ i h. omega (arith, into x (N * 10 + i) (from + i) at-c (omega arith) (omega (arith, w .within c (omega arith))), w .within c (omega arith));
+            }
 
-      pub stretch-inside : StretchInside N (wayIn l N (λ j. N * g j) near) c instant a v (v - (r + 19))
-      stretch-inside = go (decLe v (r + 19))
-        where
-          go : Dec (v ≤ r + 19) → StretchInside N (wayIn l N (λ j. N * g j) near) c instant a v (v - (r + 19))
-          go (yes narrow) =
-              let none : 0 ≡ v - (r + 19) = omega arith in
-              subst (StretchInside N (wayIn l N (λ j. N * g j) near) c instant a v) none
-              (record { from = 0; unbroken = nothing (wayIn l N (λ j. N * g j) near) 0 N; inside = λ i h. absurd (omega arith) })
-          go (no wide) =
-              let rest = left (omega arith) in
-              record { from = rest .from; unbroken = passes-stretch (wayIn l N (λ j. N * g j) near) (rest .from) (N * (v - (r + 19))) (rest .passes); inside = rest .inside }
+        stretch-inside : StretchInside N (wayIn l N (λ j. N * g j) near) c instant a v (v - most)
+        stretch-inside = go (decLe v most)
+          where
+            go : Dec (v ≤ most) → StretchInside N (wayIn l N (λ j. N * g j) near) c instant a v (v - most)
+            go (yes narrow) =
+                let none : 0 ≡ v - most = omega arith in
+                subst (StretchInside N (wayIn l N (λ j. N * g j) near) c instant a v) none
+                (record { from = 0; unbroken = nothing (wayIn l N (λ j. N * g j) near) 0 N; inside = λ i h. absurd (omega arith) })
+            go (no wide) =
+                let rest = left (omega arith) in
+                record { from = rest .from; unbroken = passes-stretch (wayIn l N (λ j. N * g j) near) (rest .from) (N * (v - most)) (rest .passes); inside = rest .inside }
 
-      pub short : N * v ≤ width (wayIn l N (λ j. N * g j) near) + N * (r + 19)
-      short = go (decLe v (r + 19))
-        where
-          go : Dec (v ≤ r + 19) → N * v ≤ width (wayIn l N (λ j. N * g j) near) + N * (r + 19)
-          go (yes narrow) = omega (arith, mul-le-mul-left N narrow)
-          go (no wide) =
-              let rest = left (omega arith) in
-              omega (arith, mul-sub N v (r + 19), width-ge (wayIn l N (λ j. N * g j) near) (proper (λ j. N * g j) near) (rest .from) (N * (v - (r + 19))) (rest .passes))
+        short : N * v ≤ width (wayIn l N (λ j. N * g j) near) + N * most
+        short = go (decLe v most)
+          where
+            go : Dec (v ≤ most) → N * v ≤ width (wayIn l N (λ j. N * g j) near) + N * most
+            go (yes narrow) = omega (arith, mul-le-mul-left N narrow)
+            go (no wide) =
+                let rest = left (omega arith) in
+                omega (arith, mul-sub N v most, width-ge (wayIn l N (λ j. N * g j) near) (proper (λ j. N * g j) near) (rest .from) (N * (v - most)) (rest .passes))
+
+        pub band : Band N (wayIn l N (λ j. N * g j) near) c instant a v r most
+        band = record { clear = clear-between; inside = stretch-inside; short = short }

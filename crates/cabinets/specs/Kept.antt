@@ -38,17 +38,19 @@ pub record StretchInside (N : ℕ) (w : Way) (c instant before v k : ℕ) : Type
   pub unbroken : stretch w from (N * k) ≡ true
   pub inside : (i : ℕ) → i < N * k → intoBand N w c instant before (from + i) < N * v
 
--- what is kept of a plan under offsets f, in halves, where the travel times cost r halves and whole seconds 19 more
+-- each named band of a plan loses so many halves at most under offsets f, in halves: inside it there is an unbroken stretch of its width less these, and so the direction's own width is no less
+pub record LosesAtMost (most : ℕ) (w : Ways) (f : ℕ → ℕ) (p : Plan) : Type 0 where
+  pub outbound-stretch : StretchInside (w .unit) (w .outbound (λ j. w .unit * f j)) (p .reference - 1) (p .starts) 0 (p .outbound) (p .outbound - most)
+  pub inbound-stretch : StretchInside (w .unit) (w .inbound (λ j. w .unit * f j)) (p .reference - 1) (p .ends) (p .inbound) (p .inbound) (p .inbound - most)
+  pub outbound-short : w .unit * p .outbound ≤ width (w .outbound (λ j. w .unit * f j)) + w .unit * most
+  pub inbound-short : w .unit * p .inbound ≤ width (w .inbound (λ j. w .unit * f j)) + w .unit * most
+
+-- what is kept of a plan under offsets f, in halves, where the travel times cost r halves and whole seconds 19 more: every departure inside a named band, which is where the plan has it, but for those near its
+-- ends; and of each band all but r and 19 halves
 pub record KeptInSeconds (w : Ways) (f : ℕ → ℕ) (p : Plan) (r : ℕ) : Type 0 where
-  -- the departures inside the named bands, which are where the plan has them
   pub outbound-clear : ClearBetween (w .unit) (w .outbound (λ j. w .unit * f j)) (p .reference - 1) (p .starts) 0 (p .outbound) (r + 10) (r + 9)
   pub inbound-clear : ClearBetween (w .unit) (w .inbound (λ j. w .unit * f j)) (p .reference - 1) (p .ends) (p .inbound) (p .inbound) (r + 10) (r + 9)
-  -- in each an unbroken stretch of its width less r less 19
-  pub outbound-stretch : StretchInside (w .unit) (w .outbound (λ j. w .unit * f j)) (p .reference - 1) (p .starts) 0 (p .outbound) (p .outbound - (r + 19))
-  pub inbound-stretch : StretchInside (w .unit) (w .inbound (λ j. w .unit * f j)) (p .reference - 1) (p .ends) (p .inbound) (p .inbound) (p .inbound - (r + 19))
-  -- so neither direction's width falls short of the reported one by more than that
-  pub outbound-short : w .unit * p .outbound ≤ width (w .outbound (λ j. w .unit * f j)) + w .unit * (r + 19)
-  pub inbound-short : w .unit * p .inbound ≤ width (w .inbound (λ j. w .unit * f j)) + w .unit * (r + 19)
+  pub loses : LosesAtMost (r + 19) w f p
 
 -- a claim about the plan and the lent list of every reply with code 0, whatever was asked for
 abbrev pub OfSeconds : (Lists → List ℕ → Plan → Type 0) → Type 0
@@ -62,12 +64,6 @@ SecondsRounded = OfSeconds λ l exit p. (N : ℕ) → 0 < N → KeptInSeconds (r
 -- 2. At exact times, in any unit that is fine for the street, m halves more, m as the reply has it
 abbrev pub SecondsExact : Type 0
 SecondsExact = OfSeconds λ l exit p. (N : ℕ) → Fine l N → KeptInSeconds (exactWays l N) (keptOffset l exit) p (p .rounded)
-
--- how many halves a direction's width may fall short of the reported one
-abbrev pub LosesAtMost : ℕ → Ways → (ℕ → ℕ) → Plan → Type 0
-LosesAtMost most w f p =
-    (w .unit * p .outbound ≤ width (w .outbound (λ j. w .unit * f j)) + w .unit * most)
-    × (w .unit * p .inbound ≤ width (w .inbound (λ j. w .unit * f j)) + w .unit * most)
 
 -- 3. The cost that was asked for: at rounded times at most 20 halves, and at exact times at most 20 more than m
 abbrev pub AtMostTwenty : Type 0
