@@ -1,6 +1,6 @@
 -- What the call's parts come to: the checks are the plan's, with one more after the opening; and an answer with a plan leaves the
 -- plan's offsets, which become seconds. Assumes nothing.
-use Prim.Native.Nat.{ℕ, _+_, _*_, _≤_, _<_}
+use Prim.Native.Nat.{ℕ, _*_, _≤_, _<_}
 use mathlib.Core.Path.{_≡_, refl, sym, ap, ap₂, _∙_}
 use mathlib.Core.List.{List, [], _∷_, _++_}
 use native.Mathlib.Omega.{arith}
@@ -75,7 +75,7 @@ all-refused request l entry f e =
     }
 
 -- an answer tells what the checks came to
-pub judged : (v : Verdict) (p : Plan) → planVerdict (answered v p) ≡ v
+judged : (v : Verdict) (p : Plan) → planVerdict (answered v p) ≡ v
 judged Passed p = refl
 judged (Refused f) p = refl
 

@@ -4,44 +4,34 @@ use Prim.Native.Nat.{ℕ, _+_, _-_, _*_, _≤_, _<_}
 use mathlib.Core.Path.{_≡_, refl, sym, ap, subst, _∙_}
 use mathlib.Core.List.{List, [], _∷_, _++_}
 use native.Mathlib.Omega.{arith}
-use lib.ListN.{length, drop, getD}
-use Rattle.circle.specs.Over.{listBelow}
+use lib.ListN.{length, getD}
 use Rattle.circle.specs.Method.{reference, redStart, redEnd}
-use Rattle.circle.proofs.Numbers.{man-turns, getD-listBelow}
+use Rattle.circle.proofs.Numbers.{man-turns}
 use Rattle.circle.proofs.Formulas.{reference-lt}
 use Rattle.street.specs.Lists.{Lists, signals}
-use Rattle.street.specs.Codes.{codeOf}
-use Rattle.street.specs.Checks.{firstFault, openingChecks, numberChecks, planChecks, written}
+use Rattle.street.specs.Checks.{firstFault, openingChecks, numberChecks, planChecks}
 use Rattle.street.specs.Streets.{timed, m}
-use Rattle.street.specs.declared.Verdict.{Verdict}
-use Rattle.street.specs.declared.Verdict.the-variants.{Passed, Refused}
-use Rattle.street.proofs.CheckLaws.{code-some}
+use Rattle.street.specs.declared.Verdict.the-variants.{Passed}
 use Rattle.street.proofs.Passed.{first-passed, rest-passed, first-of-both}
 use Rattle.widths.specs.Checks.{requestCheck}
 use Rattle.widths.specs.Moved.{shiftOf, outboundWidth, inboundWidth}
 use Rattle.widths.specs.declared.Request.{Request}
 use Rattle.widths.specs.declared.Shift.{Shift}
 use Rattle.offsets.specs.Moved.{movedOffset}
-use Rattle.plans.specs.Answers.{planVerdict, planNumbers, answered}
+use Rattle.plans.specs.Answers.{planNumbers, answered}
 use Rattle.plans.specs.Requests.{movedPlan, requestAfter}
-use Rattle.plans.specs.declared.Plan.{Plan}
 use Rattle.plans.specs.declared.Answer.{Answer}
-use Rattle.promises.specs.Exact.{Ways, roundedWays, exactWays}
+use Rattle.promises.specs.Exact.{exactWays}
 use Rattle.promises.proofs.Streets.Passing.{fit, rising}
 use Rattle.promises.proofs.Streets.Directions.{wayIn, Near, waysBy, near-rounded, near-exact}
 use Rattle.promises.proofs.Kept.{InRange, plan-bands}
-use Rattle.promises.proofs.Replies.Calls.{reply-told}
+use Rattle.promises.proofs.Replies.Calls.{planned, left, reply-told}
 use Rattle.seconds.specs.Seconds.{secondHalves, secondsCheck}
 use Rattle.seconds.proofs.SecondLaws.{nudged}
 use Rattle.cabinets.specs.Calls.{secondsOf, secondsChecks, InSeconds}
 use Rattle.cabinets.specs.Kept.{keptOffset, LosesAtMost, KeptInSeconds, SecondsRounded, SecondsExact, AtMostTwenty}
-use Rattle.cabinets.proofs.CallLaws.{judged, as-plan}
+use Rattle.cabinets.proofs.CallLaws.{as-plan}
 use Rattle.cabinets.proofs.Nudged.{Nudges, Band, band}
-
--- code 0 is that of no refusal
-no-code : (v : Verdict) → codeOf v ≡ 0 → v ≡ Passed
-no-code Passed e = refl
-no-code (Refused f) e = absurd (omega (arith, code-some (f .code)))
 
 -- what a reply with code 0 and the lent list say: the cycle is a whole number of seconds, the reply is that of a plan, and the entries are its offsets' seconds
 pub record Said (l : Lists) (room : ℕ) (shift : Shift) (exit : List ℕ) (r : Answer) : Type 0 where
@@ -61,7 +51,7 @@ reply-said asked l entry exit r call code =
     let plan = movedPlan shift s (m l) in
     let v = secondsChecks asked l room in
     let rest = secondsCheck (l .cycle) ∷ (numberChecks l ++ (requestCheck asked s ∷ [])) in
-    let all : v ≡ Passed = sym (judged v plan) ∙ sym (ap planVerdict (call .reply)) ∙ no-code (planVerdict r) code in
+    let all : v ≡ Passed = planned v plan (ap (λ a. planNumbers a .code) (sym (call .reply)) ∙ code) in
     let both = first-of-both (openingChecks l room) rest ∙ all in
     let whole = first-passed (secondsCheck (l .cycle)) _ (rest-passed (firstFault (openingChecks l room)) (firstFault rest) both) in
     let reply = call .reply ∙ ap (λ w. answered w plan) (as-plan asked l room whole) in
@@ -71,11 +61,7 @@ reply-said asked l entry exit r call code =
       passed = told .passed;
       range = told .range;
       numbers = told .numbers;
-      seconds =
-          λ j h.
-          let f = secondsOf 0 s (movedOffset shift s) in
-          ap (λ (x : List ℕ). getD x j 0) (call .after ∙ ap (λ w. written w (listBelow (signals l) f) entry) all)
-          ∙ getD-listBelow (signals l) f (drop (length (listBelow (signals l) f)) entry) j 0 h;
+      seconds = λ j h. ap (λ (x : List ℕ). getD x j 0) (call .after) ∙ left v (signals l) (secondsOf 0 s (movedOffset shift s)) entry all j h;
     }
 
 -- so the offsets that the cabinets keep have each red start 10 halves less some η after the plan's

@@ -1,28 +1,24 @@
 -- The measure of the offsets that the cabinets keep. They are instants of the cycle, so that no check refuses them; and the width that it finds is the one that is promised at rounded times, in whole halves.
 -- Assumes nothing.
 use Prim.Native.Nat.{ℕ, _+_, _-_, _*_, _≤_, _<_}
-use mathlib.Core.Path.{_≡_, refl, sym, ap, ap₂, subst, _∙_}
+use mathlib.Core.Path.{_≡_, refl, sym, ap, subst, _∙_}
 use mathlib.Core.List.{List, [], append-nil}
 use native.Mathlib.Omega.{arith}
 use lib.IntN.{pos, _-ℤ_}
 use lib.ListN.{length, getD}
-use borrow.Author.Tests.{lt-leb}
 use Rattle.circle.specs.Man.{man}
 use Rattle.circle.specs.Over.{listBelow}
 use Rattle.circle.specs.Method.{Timed, inUnits, redStart}
 use Rattle.circle.specs.Bands.{width, wayThrough}
-use Rattle.circle.proofs.Numbers.{first-nowhere, getD-listBelow, length-listBelow, man-lt}
+use Rattle.circle.proofs.Numbers.{getD-listBelow, length-listBelow, man-lt}
 use Rattle.circle.proofs.Stretches.{width-alike}
-use Rattle.street.specs.Lists.{Lists, signals}
-use Rattle.street.specs.Checks.{orNext, faultAt, planChecks}
+use Rattle.street.specs.Lists.{signals}
 use Rattle.street.specs.Streets.{timed}
-use Rattle.street.specs.declared.Code.the-variants.{Offset}
 use Rattle.street.specs.declared.Verdict.the-variants.{Passed}
-use Rattle.street.proofs.Passed.{enough-room}
 use Rattle.plans.specs.Answers.{planNumbers}
-use Rattle.bands.specs.Measure.{badOffset, offsetCheck, measureChecks, measuredOf, foundOr, measurementOf, bandNumbers}
-use Rattle.bands.proofs.CheckLaws.{checks-full}
+use Rattle.bands.specs.Measure.{measuredOf, foundOr, measurementOf, bandNumbers}
 use Rattle.promises.proofs.Streets.Passing.{fit}
+use Rattle.promises.proofs.Replies.Measures.{accepted}
 use Rattle.seconds.specs.Seconds.{secondHalves}
 use Rattle.cabinets.specs.Kept.{keptOffset, SecondsMeasured}
 use Rattle.cabinets.proofs.Kept.{reply-said, seconds-rounded}
@@ -50,18 +46,6 @@ in-halves s f g lag lag′ same late =
           λ i. man (H i) (pos (x + late j i) -ℤ pos (man (H i) (pos (at i) -ℤ pos (red i))));
     })
 
--- offsets on the cycle pass the measure's checks
-on-cycle : (l : Lists) (room : ℕ) → planChecks l room ≡ Passed → (g : ℕ → ℕ) → ((j : ℕ) → g j < 2 * l .cycle) → measureChecks l (listBelow (signals l) g) ≡ Passed
-unfolding offsetCheck
-on-cycle l room passed g less =
-    let offsets = listBelow (signals l) g in
-    let count = length-listBelow (signals l) g in
-    let all : offsetCheck (l .cycle) offsets ≡ Passed =
-    ap (faultAt Offset)
-    (first-nowhere (length offsets) (badOffset (l .cycle) offsets)
-    (λ j h. lt-leb (2 * l .cycle) (getD offsets j 0) (omega (arith, less j, entry-is (signals l) g j (omega arith))))) in
-    checks-full l offsets count ∙ ap₂ orNext (enough-room l room (signals l) passed (omega arith)) all
-
 pub seconds-measured : SecondsMeasured
 seconds-measured asked l entry exit r call code =
     let s = timed l in
@@ -74,7 +58,9 @@ seconds-measured asked l entry exit r call code =
     let out = in-halves s g (λ j. getD offsets j 0) (λ j. 2 * (1 * s .outbound j)) (λ j. 2 * s .outbound j) same (λ j. omega arith) in
     let back = in-halves s g (λ j. getD offsets j 0) (λ j. 2 * (1 * s .inbound (s .signals - 1) - 1 * s .inbound j)) (λ j. 2 * (s .inbound (s .signals - 1) - s .inbound j)) same (λ j. omega arith) in
     let p = planNumbers r .plan in
-    let all = on-cycle l (length entry) (said .passed) g (λ j. man-lt (2 * l .cycle) (pos (secondHalves * getD exit j 0) -ℤ pos (getD (l .reds) j 0)) around) in
+    let less : (j : ℕ) → j < signals l → getD offsets j 0 < 2 * l .cycle =
+    λ j h. omega (arith, entry-is (signals l) g j h, man-lt (2 * l .cycle) (pos (secondHalves * getD exit j 0) -ℤ pos (getD (l .reds) j 0)) around) in
+    let all = accepted l (length entry) (said .passed) offsets (length-listBelow (signals l) g) less in
     let found : bandNumbers (foundOr Passed (measuredOf s offsets)) ≡ bandNumbers (measurementOf l offsets) = ap (λ v. bandNumbers (foundOr v (measuredOf s offsets))) (sym all) in
     subst (λ n. (n .code ≡ 0) × (p .outbound ≤ n .outbound .width + 19) × (p .inbound ≤ n .inbound .width + 19)) found
     (refl, omega (arith, kept .loses .outbound-short, out), omega (arith, kept .loses .inbound-short, back))

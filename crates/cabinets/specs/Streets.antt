@@ -1,5 +1,5 @@
 -- Streets on which whole seconds cost all that is promised (02, 2026-06), so that nobody could promise less. One loses 19 halves of its outbound band at rounded times and m + 19 at exact ones, the other of its
--- inbound band; and a departure one half nearer to the band's start or end than is promised meets a red.
+-- inbound band; and at either end of either band a departure one half nearer than is promised meets a red, at rounded times and at exact ones.
 use Prim.Native.Nat.{ℕ, _+_, _*_}
 use mathlib.Core.Path.{_≡_}
 use mathlib.Core.List.{List, [], _∷_}
@@ -53,3 +53,22 @@ InwardLoses =
     × Fine inward 1
     × (width z + (1 + 19) ≡ 39)
     × RedAtStart 1 z 1 51 39 (1 + 10) 22
+
+-- and at the two other ends, at exact times: with both reds of 10 a departure 10 halves after the outbound band's start meets a red, and with both of 9 one 10 halves before the inbound band's end; 2,950 mm take
+-- 29 1/2 ticks, rounded to 30
+abbrev pub tens : Lists
+tens = twoSignals 30 10 10 0 2950 1000 1000
+
+abbrev pub nines : Lists
+nines = twoSignals 30 9 9 0 2950 1000 1000
+
+abbrev pub OtherEnds : Type 0
+OtherEnds =
+    (secondsAnswer Equal tens 2 ≡ plan 1 (pos 40) 40 40 1 10 50)
+    × (secondsAfter Equal tens (7 ∷ 7 ∷ []) ≡ 1 ∷ 1 ∷ [])
+    × Fine tens 1
+    × RedAtStart 1 (exactWays tens 1 .outbound (keptBy tens (1 ∷ 1 ∷ []))) 0 10 0 (1 + 10) 20
+    × (secondsAnswer Equal nines 2 ≡ plan 1 (pos 42) 42 42 1 9 51)
+    × (secondsAfter Equal nines (7 ∷ 7 ∷ []) ≡ 0 ∷ 0 ∷ [])
+    × Fine nines 1
+    × RedAtEnd 1 (exactWays nines 1 .inbound (keptBy nines (0 ∷ 0 ∷ []))) 0 51 42 42 (1 + 9) 42

@@ -44,12 +44,12 @@ use Rattle.promises.proofs.Streets.Directions.{near-rounded, near-exact
 use Rattle.promises.proofs.Kept.{InRange, Follows, plan-keeps, platoons-in-range}
 
 -- an answer with code 0 passed the checks
-planned : (v : Verdict) (p : Plan) → planNumbers (answered v p) .code ≡ 0 → v ≡ Passed
+pub planned : (v : Verdict) (p : Plan) → planNumbers (answered v p) .code ≡ 0 → v ≡ Passed
 planned Passed p e = refl
 planned (Refused f) p e = absurd (omega (arith, code-some (f .code)))
 
--- the list that a call leaves has the plan's offsets first
-left : (v : Verdict) (n : ℕ) (f : ℕ → ℕ) (before : List ℕ) → v ≡ Passed → (j : ℕ) → j < n → getD (written v (listBelow n f) before) j 0 ≡ f j
+-- the list that a call leaves has first what the call writes, signal by signal
+pub left : (v : Verdict) (n : ℕ) (f : ℕ → ℕ) (before : List ℕ) → v ≡ Passed → (j : ℕ) → j < n → getD (written v (listBelow n f) before) j 0 ≡ f j
 left Passed n f before e j h = getD-listBelow n f (drop (length (listBelow n f)) before) j 0 h
 left (Refused r) n f before e j h = let z : _≡_ {A = ℕ} 0 1 = cc in absurd (omega arith)
 

@@ -1,6 +1,6 @@
 -- The measure of the offsets that a plan leaves: they are instants of the cycle, so that no check refuses them, and the widths found are those of the plan's named bands. The offsets enter
 -- through the lent list's first entries. Assumes nothing.
-use Prim.Native.Nat.{ℕ, _*_}
+use Prim.Native.Nat.{ℕ, _*_, _<_}
 use mathlib.Core.Path.{_≡_, refl, sym, ap, ap₂, subst, _∙_}
 use mathlib.Core.List.{List}
 use native.Mathlib.Omega.{arith}
@@ -15,7 +15,6 @@ use Rattle.street.specs.declared.Code.the-variants.{Offset}
 use Rattle.street.specs.declared.Verdict.the-variants.{Passed}
 use Rattle.street.proofs.Passed.{enough-room}
 use Rattle.widths.specs.Moved.{shiftOf, outboundWidth, inboundWidth}
-use Rattle.widths.specs.declared.Shift.{Shift}
 use Rattle.plans.proofs.Unique.{offsets-below}
 use Rattle.bands.specs.Measure.{badOffset, offsetCheck, measureChecks, measuredOf, foundOr, measurementOf, bandNumbers}
 use Rattle.bands.proofs.CheckLaws.{checks-full}
@@ -25,14 +24,14 @@ use Rattle.promises.proofs.Bands.Widths.{bands-measured}
 use Rattle.promises.proofs.Kept.{Follows, plan-bands}
 use Rattle.promises.proofs.Replies.Calls.{reply-told}
 
-module _ (l : Lists) (room : ℕ) (passed : planChecks l room ≡ Passed) (shift : Shift) (offsets : List ℕ) (count : length offsets ≡ signals l) (same : Follows (timed l) shift (λ j. getD offsets j 0)) where
-  -- a plan's offsets are on the cycle, so their check passes
+module _ (l : Lists) (room : ℕ) (passed : planChecks l room ≡ Passed) (offsets : List ℕ) (count : length offsets ≡ signals l) (less : (j : ℕ) → j < signals l → getD offsets j 0 < 2 * l .cycle) where
+  -- offsets on the cycle, whatever they are: their check passes
   in-cycle : offsetCheck (l .cycle) offsets ≡ Passed
   unfolding offsetCheck
   in-cycle =
       ap (faultAt Offset)
       (first-nowhere (length offsets) (badOffset (l .cycle) offsets)
-      (λ j h. lt-leb (2 * l .cycle) (getD offsets j 0) (omega (arith, offsets-below l room passed shift j, same j (omega arith)))))
+      (λ j h. lt-leb (2 * l .cycle) (getD offsets j 0) (less j (omega arith))))
 
   pub accepted : measureChecks l offsets ≡ Passed
   accepted = checks-full l offsets count ∙ ap₂ orNext (enough-room l room (signals l) passed (omega arith)) in-cycle
@@ -53,7 +52,8 @@ measure-agrees asked l entry exit r call code =
     let f : ℕ → ℕ = λ j. getD offsets j 0 in
     let same : Follows s shift f = λ j h. getD-take n exit j 0 h ∙ told .same j h in
     let named = plan-bands s ok rise f shift same (told .range) in
-    let all = accepted l room passed shift offsets (length-take-le n exit (told .long)) same in
+    let less : (j : ℕ) → j < n → f j < 2 * l .cycle = λ j h. omega (arith, offsets-below l room passed shift j, same j h) in
+    let all = accepted l room passed offsets (length-take-le n exit (told .long)) less in
     let found : bandNumbers (foundOr Passed (measuredOf s offsets)) ≡ bandNumbers (measurementOf l offsets) = ap (λ c. bandNumbers (foundOr c (measuredOf s offsets))) (sym all) in
     let is = bands-measured s ok (bounded l room passed) f v v′ named in
     subst (λ p. let n = bandNumbers (measurementOf l offsets) in (n .code ≡ 0) × (n .outbound .width ≡ p .outbound) × (n .inbound .width ≡ p .inbound)) (told .numbers)
