@@ -1,4 +1,6 @@
 // The measure of given offsets: each direction's width, and the smallest start that attains it (01, 'Measuring').
+#![tactic(auto)]
+
 mod ends;
 
 ghost use Rattle.std.specs.Prelude.{◌≡◌, ◌≤◌, length};

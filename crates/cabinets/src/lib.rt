@@ -1,5 +1,7 @@
 // The plan of a request with cabinet offsets (02, 2026-06): in the lent list stands the second at which each signal turns green. specs/ has
 // the call, and what the cabinets keep of a plan; that is proved here, from the plans' promises.
+#![tactic(auto)]
+
 ghost use Rattle.street.specs.Lists.{typed};
 ghost use Rattle.cabinets.specs.Calls.{InSeconds};
 

@@ -1,5 +1,7 @@
 // A program for tests: many requests on standard input, the reply to each on standard output with an empty line after it. Requests are
 // separated by a byte 0, and each is a request line and then a sheet's bytes, or a survey's rows. A request that is not served is a `bad request`.
+#![tactic(auto)]
+
 ghost use Rattle.std.specs.Prelude.{◌≤◌, ◌≡◌, length};
 ghost use Rattle.sheet.specs.Steps.Held.{Held};
 ghost use Rattle.lines.specs.Steps.{max_entries, max_room};

@@ -1,6 +1,8 @@
 // What a circle of time is: remainders, choices over signals, and the published method's widths over any cycle, reds and times. specs/
 // has the definitions and proofs/ the laws about them; the code is the two ways to go back on a circle, with a division and without,
 // and the choices between two numbers.
+#![tactic(auto)]
+
 ghost use Rattle.std.specs.Prelude.{◌+◌, ◌-◌, ◌≤◌, ◌<◌, ◌^◌, min, max, ◌≡◌, pos, ◌-ℤ◌};
 ghost use Rattle.circle.specs.Man.{man};
 

@@ -1,4 +1,6 @@
 // Numbers as decimal digits, written into a list of bytes that the caller lends (01, 'The printed plan' and 'The street sheet').
+#![tactic(auto)]
+
 ghost use Rattle.std.specs.Prelude.{◌+◌, ◌≤◌, ◌≡◌, [], ◌∷◌, ◌++◌, length};
 ghost use Rattle.decimal.specs.Decimal.{decimal, signed_decimal};
 ghost use Rattle.decimal.specs.Steps.{Writes};

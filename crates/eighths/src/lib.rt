@@ -1,5 +1,7 @@
 // A survey instrument's readings: 64-bit floats, in metres or metres a second, of which those are accepted that are a whole number of
 // eighths (02, 2026-04). Wholeness is decided from the bits of eight times the reading, which is exact; then the cast loses nothing.
+#![tactic(auto)]
+
 ghost use Rattle.std.specs.Prelude.{◌≡◌, T};
 ghost use Rattle.std.specs.Float.{binary64};
 ghost use Rattle.std.specs.Float.Ieee.{le, of_bits};

@@ -1,5 +1,7 @@
 // The C boundary: each public call as a C function over numbers and lists, for include/corbatan.h. A list is a pointer and a count to C,
 // and a reply one of the structs of `flat`.
+#![tactic(auto)]
+
 ghost use Rattle.std.specs.Prelude.{◌≡◌};
 ghost use Rattle.street.specs.Lists.{typed};
 ghost use Rattle.widths.specs.declared.Request.TheVariants.{Equal, Outbound, Inbound, Platoons, Volumes};

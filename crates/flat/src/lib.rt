@@ -1,5 +1,7 @@
 // The library's replies in C's flat structs, for include/corbatan.h. C has no enums with fields, so a reply is one struct, whose code is
 // 0 where nothing was refused. No call is made here: `exports` has these.
+#![tactic(auto)]
+
 ghost use Rattle.std.specs.Prelude.{◌≡◌};
 ghost use Rattle.street.specs.Codes.{code_of, place_of};
 ghost use Rattle.flat.specs.Flat.{flat_plan, flat_carried, flat_measure, flat_reading, flat_writing};

@@ -1,4 +1,6 @@
 // A request line: what it asks for, and how long a list is lent, of offsets or of bytes; and the lines of a survey's rows.
+#![tactic(auto)]
+
 ghost use Rattle.std.specs.Prelude.{◌≤◌, length, ◌≡◌};
 ghost use Rattle.lines.specs.Steps.{max_entries, max_room, Within};
 

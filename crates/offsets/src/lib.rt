@@ -1,5 +1,7 @@
 // Offsets against a reference (01, 'The equal plan' and 'Moving width'): each signal's phase, how far its offset is lowered, and the lent
 // list's first entries.
+#![tactic(auto)]
+
 ghost use Rattle.std.specs.Prelude.{◌≡◌, ◌++◌, ◌*◌, ◌≤◌, ◌<◌, length, drop};
 ghost use Rattle.circle.specs.Over.{list_below};
 ghost use Rattle.road.specs.Steps.{max_time};

@@ -1,5 +1,7 @@
 // The program: a street sheet on standard input, its equal plan on standard output. Everything that matters stands in `printed`; here
 // the bytes only come in and go out. One byte more than a sheet may have is asked for, so that a sheet that is too long is seen to be.
+#![tactic(auto)]
+
 ghost use Rattle.road.specs.Limits.{max_signals};
 ghost use Rattle.printed.specs.Way.{Answers};
 

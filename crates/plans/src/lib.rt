@@ -1,5 +1,7 @@
 // The plans: from a street's numbers and a request to the reference signal, the widths and each signal's offset (01, 'The equal plan' and
 // 'Moving width').
+#![tactic(auto)]
+
 ghost use Rattle.std.specs.Prelude.{◌≡◌, ◌≤◌, ◌<◌, ◌^◌, pos, ◌-ℤ◌};
 ghost use Rattle.circle.specs.Method.{reference};
 ghost use Rattle.street.specs.Lists.{typed};

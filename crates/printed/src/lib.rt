@@ -1,5 +1,7 @@
 // The printed plan: an answer's text as bytes (01, 'The printed plan'). Each step writes some bytes of it into a lent list, from a place
 // on, and answers the next place.
+#![tactic(auto)]
+
 ghost use Rattle.std.specs.Prelude.{◌+◌, ◌≤◌, ◌≡◌, length, take};
 ghost use Rattle.road.specs.Limits.{max_signals};
 ghost use Rattle.sheet.specs.Reading.{lists_of};

@@ -1,5 +1,7 @@
 // The road: how long each link takes in either direction, in ticks, and how many links were rounded (01, 'Travel time'). No cycle
 // enters.
+#![tactic(auto)]
+
 mod times;
 
 ghost use Rattle.std.specs.Prelude.{◌≡◌, length};

@@ -1,5 +1,7 @@
 // The search for the reference and B (01, 'The equal plan'). Widths are raised by the cycle H, so that none is negative. Each signal's
 // sums are reduced to the cycle once; from there a pair costs comparisons and differences alone, no division.
+#![tactic(auto)]
+
 ghost use Rattle.std.specs.Prelude.{◌≡◌, ◌*◌, ◌≤◌, ◌<◌, pos, length};
 ghost use Rattle.circle.specs.Over.{least_below};
 ghost use Rattle.road.specs.Limits.{max_signals};

@@ -1,5 +1,7 @@
 // Whole seconds for a cabinet (02, 2026-06): which cycles have a whole number of them, the second nearest to the start of a signal's green,
 // and a list of offsets turned into seconds. No street enters.
+#![tactic(auto)]
+
 ghost use Rattle.std.specs.Prelude.{◌≡◌, ◌++◌, ◌*◌, ◌≤◌, ◌<◌, length, drop, get_or};
 ghost use Rattle.circle.specs.Over.{list_below};
 ghost use Rattle.street.specs.Limits.{max_cycle};

@@ -1,5 +1,7 @@
 // The sheet reader: from a sheet's bytes to the numbers of a street, or the refusal that they earn (01, 'The street sheet').
 // A number is read up to the byte that ends it, a section is its count and its lines, and the first fault decides.
+#![tactic(auto)]
+
 ghost use Rattle.std.specs.Prelude.{◌≡◌, ◌≤◌, drop};
 ghost use Rattle.road.specs.Limits.{max_signals};
 ghost use Rattle.road.specs.Steps.{Zeros};

@@ -1,5 +1,7 @@
 // The street: its limits, its refusal codes, each check, and the constructor (01, 'Units and the street' and 'Codes, in order of
 // checking').
+#![tactic(auto)]
+
 pub mod checks;
 
 ghost use Rattle.std.specs.Prelude.{◌≡◌, ◌≤◌, length, get_or};

@@ -1,5 +1,7 @@
 // The longest stretch there is, from the red ends as they are seen where a direction departs. Only red ends need be tried as starts,
 // and the instant 0 in case there is no red (02, 2026-05): each is held against every signal, by comparisons and differences alone.
+#![tactic(auto)]
+
 ghost use Rattle.std.specs.Prelude.{◌≡◌, ◌≤◌, ◌<◌, get_or};
 ghost use Rattle.road.specs.Limits.{max_signals};
 ghost use Rattle.street.specs.Limits.{max_cycle};

@@ -1,5 +1,7 @@
 // The field crew's survey: from an instrument's rows to the numbers of a street as they would be typed by hand, and to their plan (02,
 // 2026-04).
+#![tactic(auto)]
+
 ghost use Rattle.std.specs.Prelude.{◌≡◌, ℕ, ◌≤◌, ◌<◌, length};
 ghost use Rattle.std.specs.Float.{binary64};
 ghost use Rattle.std.specs.Float.Ieee.{of_bits};

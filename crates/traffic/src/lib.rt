@@ -1,5 +1,7 @@
 // Vehicles an hour and platoons (02, 2026-03): the platoon of a volume, the largest volume whose platoon fits a width, and the check of
 // volumes and their headway. A volume is in vehicles an hour, a cycle and a headway are in ticks, platoons and widths in halves.
+#![tactic(auto)]
+
 ghost use Rattle.std.specs.Prelude.{◌≡◌, ◌≤◌};
 ghost use Rattle.street.specs.Limits.{max_cycle, max_volume, max_headway};
 ghost use Rattle.traffic.specs.Volumes.{platoon_of, Largest};

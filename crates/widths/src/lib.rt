@@ -1,5 +1,7 @@
 // Requests, and the widths that they come to (01, 'Moving width'). Widths and platoons are in halves; B comes raised by the cycle H,
 // so that it is never negative.
+#![tactic(auto)]
+
 ghost use Rattle.std.specs.Prelude.{◌≡◌, ◌*◌, ◌≤◌, ◌<◌, ◌^◌, pos};
 ghost use Rattle.circle.specs.Moved.{g, other_width, found_width, platoon_width};
 ghost use Rattle.street.specs.Limits.{max_cycle, max_platoon};

@@ -1,5 +1,7 @@
 // The sheet writer: from a street's numbers to the bytes of its sheet, in a list that the caller lends (02, 2026-01). The sheet is
 // made in a buffer of its own and handed over once every check has passed, so that a refusal has written nothing.
+#![tactic(auto)]
+
 ghost use Rattle.std.specs.Prelude.{◌≡◌, ◌+◌, ◌≤◌, length};
 ghost use Rattle.road.specs.Limits.{max_signals};
 ghost use Rattle.street.specs.Lists.{typed};
