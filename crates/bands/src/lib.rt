@@ -15,21 +15,21 @@ use street::{Code, Refusal, Street, Verdict, refused};
 pub use stretches::Band;
 
 // Both directions' bands under given offsets.
-#[derive(Drop)]
+#[derive(Clone, Copy)]
 pub struct Measured {
     pub outbound: Band,
     pub inbound: Band,
 }
 
 // A measure, or a numbered refusal.
-#[derive(Drop)]
+#[derive(Clone, Copy)]
 pub enum Measurement {
     Found(Measured),
     Refused(Refusal),
 }
 
 // The two ways along the street.
-#[derive(Drop)]
+#[derive(Clone, Copy)]
 enum Direction {
     Outbound,
     Inbound,

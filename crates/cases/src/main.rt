@@ -19,7 +19,7 @@ use writer::Writing;
 const MAX_INPUT: usize = 65_536;
 
 // What a plan leaves in the lent list: offsets in halves, or whole seconds.
-#[derive(Drop)]
+#[derive(Clone, Copy)]
 enum Unit {
     Halves,
     Seconds,

@@ -15,6 +15,16 @@ const ZERO: u8 = 48;
 
 const MINUS: u8 = 45;
 
+// Writes a text from the list's start, and tells the place behind it.
+pub fn copy(text: &[u8], bytes: &mut [u8]) -> usize
+    requires { length text.now ≤ length bytes.old }
+    ensures { Writes 0 text.now bytes.old bytes.new result }
+{
+    let count = text.len();
+    bytes[..count].copy_from_slice(text);
+    count
+}
+
 // How many digits a number has: one more than there are tens to take off.
 pub fn size(x: u32) -> usize
     ensures { result ≡ length (decimal x) }

@@ -9,7 +9,7 @@ ghost use Rattle.eighths.specs.Readings.{eighths_of};
 ghost use Rattle.eighths.specs.Steps.{least, most, whole_of};
 
 // What a float comes to: so many eighths, or a float outside the rules.
-#[derive(Drop)]
+#[derive(Clone, Copy)]
 pub enum Eighths {
     Whole(u32),
     Outside,

@@ -15,7 +15,7 @@ use writer::Writing;
 
 // A plan's numbers or a refusal's, with document 01's number for the refusal. Widths, B and instants are in halves.
 #[repr(C)]
-#[derive(Drop)]
+#[derive(Clone, Copy)]
 pub struct CorbatanPlan {
     pub code: u32,
     pub place: u32,
@@ -30,7 +30,7 @@ pub struct CorbatanPlan {
 
 // A plan or a refusal, and for each direction the largest volume that its width takes, in vehicles an hour; 0 in a refusal.
 #[repr(C)]
-#[derive(Drop)]
+#[derive(Clone, Copy)]
 pub struct CorbatanVolumes {
     pub plan: CorbatanPlan,
     pub outbound_volume: u32,
@@ -39,7 +39,7 @@ pub struct CorbatanVolumes {
 
 // A measure's numbers or a refusal's, widths and starts in halves.
 #[repr(C)]
-#[derive(Drop)]
+#[derive(Clone, Copy)]
 pub struct CorbatanMeasure {
     pub code: u32,
     pub place: u32,
@@ -51,7 +51,7 @@ pub struct CorbatanMeasure {
 
 // A sheet's numbers, not yet judged, or a refusal's. The lists stand inside, so that none has to be lent for them.
 #[repr(C)]
-#[derive(Drop)]
+#[derive(Clone, Copy)]
 pub struct CorbatanSheet {
     pub code: u32,
     pub place: u32,
@@ -65,7 +65,7 @@ pub struct CorbatanSheet {
 
 // The length of a sheet that was written, or a refusal's numbers, with a length of 0.
 #[repr(C)]
-#[derive(Drop)]
+#[derive(Clone, Copy)]
 pub struct CorbatanWriting {
     pub code: u32,
     pub place: u32,
@@ -74,14 +74,14 @@ pub struct CorbatanWriting {
 
 // A printed text: its length, and its bytes with zeros behind them.
 #[repr(C)]
-#[derive(Drop)]
+#[derive(Clone, Copy)]
 pub struct CorbatanText {
     pub count: usize,
     pub bytes: [u8; Printed::MAX_BYTES],
 }
 
 // The code and place of a verdict, both 0 where nothing was refused.
-#[derive(Drop)]
+#[derive(Clone, Copy)]
 pub struct Mark {
     pub code: u32,
     pub place: u32,

@@ -9,7 +9,7 @@ use widths::Request;
 
 // What a line asks for: a plan, a plan in whole seconds, the measure of its numbers as offsets, the sheet's own bytes, or the plan of rows
 // at a cycle. A line that is not served is bad.
-#[derive(Drop)]
+#[derive(Clone, Copy)]
 pub enum Call {
     Bad,
     Plan(Request),
@@ -21,7 +21,7 @@ pub enum Call {
 
 // A request line from its word on: whether it is formed as it should be, how many entries are lent, its numbers, of which the first
 // `count` are the line's, and where the sheet starts.
-#[derive(Drop)]
+#[derive(Clone, Copy)]
 pub struct Line {
     pub good: bool,
     pub room: usize,
@@ -38,7 +38,7 @@ impl Line {
 }
 
 // What is lent for a line: nothing, a list for offsets or seconds, or a list of bytes.
-#[derive(Drop)]
+#[derive(Clone, Copy)]
 enum Lent {
     Nothing,
     Offsets,
@@ -46,14 +46,14 @@ enum Lent {
 }
 
 // A line, and what it asks for.
-#[derive(Drop)]
+#[derive(Clone, Copy)]
 pub struct Asked {
     pub call: Call,
     pub line: Line,
 }
 
 // Numbers, each after one space: how many they are, and where they end. Those past the most that are kept are passed over.
-#[derive(Drop)]
+#[derive(Clone, Copy)]
 struct Listed {
     count: usize,
     numbers: [u32; Line::MAX_ENTRIES],
@@ -61,7 +61,7 @@ struct Listed {
 }
 
 // A number, or none: whether there is one, its value, and where it ends.
-#[derive(Drop)]
+#[derive(Clone, Copy)]
 struct Digits {
     good: bool,
     value: u32,
@@ -70,7 +70,7 @@ struct Digits {
 
 // A row of a survey from its line: the kind of its position, 0 for a chainage and 1 for a gap, the bits of its position and of its two
 // speeds, its red, and where the next line starts, or 0 where the line is no row's.
-#[derive(Drop)]
+#[derive(Clone, Copy)]
 pub struct RowLine {
     pub kind: u32,
     pub position: u64,
@@ -81,7 +81,7 @@ pub struct RowLine {
 }
 
 // A float's bits, or none: whether they are there, and where they end.
-#[derive(Drop)]
+#[derive(Clone, Copy)]
 struct Pattern {
     good: bool,
     value: u64,
@@ -89,7 +89,7 @@ struct Pattern {
 }
 
 // The end of a request line: whether it is one, how many entries are lent, and where the sheet starts.
-#[derive(Drop)]
+#[derive(Clone, Copy)]
 struct Ending {
     good: bool,
     room: usize,

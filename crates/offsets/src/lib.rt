@@ -15,7 +15,7 @@ use street::Street;
 use widths::Shift;
 
 // A signal's phase against the reference, and the u of that phase.
-#[derive(Drop)]
+#[derive(Clone, Copy)]
 pub struct Choice {
     pub phase: u32,
     pub u: u32,

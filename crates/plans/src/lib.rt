@@ -18,7 +18,7 @@ use widths::Shift;
 // A plan's numbers. The reference c is counted from 1. B and the widths are in halves, and B can be negative. `rounded` is m,
 // the number of links with a rounded time. `starts` and `ends` are instants at c, from 0 to H - 1: where the named outbound band
 // starts, as c's red ends, and where the named inbound band ends, as c's red starts.
-#[derive(Drop)]
+#[derive(Clone, Copy)]
 pub struct Plan {
     pub reference: u32,
     pub b: i32,
@@ -30,7 +30,7 @@ pub struct Plan {
 }
 
 // A plan, or a numbered refusal.
-#[derive(Drop)]
+#[derive(Clone, Copy)]
 pub enum Answer {
     Planned(Plan),
     Refused(Refusal),
@@ -38,7 +38,7 @@ pub enum Answer {
 
 // An answer, and beside a plan for each direction the largest volume, in vehicles an hour, whose platoon fits the direction's width; 0
 // and 0 beside a refusal (02, 2026-03).
-#[derive(Drop)]
+#[derive(Clone, Copy)]
 pub struct Carried {
     pub answer: Answer,
     pub outbound: u32,

@@ -10,14 +10,13 @@ ghost use Rattle.decimal.specs.Steps.{Writes};
 ghost use Rattle.printed.specs.Text.{max_text, plan_line, offset_lines, refusal_line, text_of, printed_of, Prints};
 ghost use Rattle.printed.specs.Way.{lent_of, plan_text, PrintsAnswer};
 
-use bytes::copy;
-use decimal::{LINE_END, SPACE, write_ended, write_signed};
+use decimal::{LINE_END, SPACE, copy, write_ended, write_signed};
 use plans::{Answer, Plan};
 use sheet::Sheet;
 use street::{Refusal, Street, Verdict, code_number};
 
 // The printed bytes and how many they are; the rest of `bytes` is 0.
-#[derive(Drop)]
+#[derive(Clone, Copy)]
 pub struct Printed {
     pub bytes: [u8; Printed::MAX_BYTES],
     pub count: usize,
@@ -30,9 +29,7 @@ impl Printed {
 
 // The limit of the code is that of the definition. The body is empty: the contract is all there is to this.
 fn limits()
-    ensures* { do
-      most ← (⟦Printed::MAX_BYTES⟧).entry
-      ⌜ most ≡ max_text ⌝ }
+    ensures { Printed.MAX_BYTES ≡ max_text }
 {}
 
 // A plan's first line.

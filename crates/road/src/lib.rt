@@ -9,7 +9,7 @@ ghost use Rattle.road.specs.Steps.{Driveable, Zeros, road_of, laid};
 
 // A road: how many signals, for each the outbound ticks from signal 1 to it and the inbound ticks from it to signal 1, and the
 // number of links with a rounded time. Entries from `signals` on are 0.
-#[derive(Drop)]
+#[derive(Clone, Copy)]
 pub struct Road {
     pub signals: usize,
     pub outbound: [u32; Road::MAX_SIGNALS],

@@ -6,14 +6,14 @@ ghost use Rattle.road.specs.Times.{ticks, whole, link_length, link_ticks, rounde
 ghost use Rattle.road.specs.Steps.{Driveable};
 
 // A link's time in one direction: the rounded ticks, and whether the exact time was whole already.
-#[derive(Drop)]
+#[derive(Clone, Copy)]
 struct LinkTime {
     ticks: u32,
     whole: bool,
 }
 
 // A link: its ticks in each direction, and 1 where either was rounded, else 0.
-#[derive(Drop)]
+#[derive(Clone, Copy)]
 pub struct Link {
     pub outbound: u32,
     pub inbound: u32,

@@ -12,7 +12,7 @@ ghost use Rattle.search.specs.Steps.{leaves_of, pair_of, Reduced, Turning, PairR
 use street::Street;
 
 // What the search settles on: the reference's index, counted from 0, and B raised by H.
-#[derive(Drop)]
+#[derive(Clone, Copy)]
 pub struct Candidate {
     pub signal: usize,
     pub raised: u32,

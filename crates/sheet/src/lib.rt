@@ -17,7 +17,7 @@ ghost use Rattle.sheet.specs.Steps.Cursors.{taken_at, opened_at, Allowed, column
 use street::{Code, Refusal, Street, Verdict};
 
 // The numbers of a sheet, not yet judged: `signals` signals and one link fewer. Entries from those counts on are 0.
-#[derive(Drop)]
+#[derive(Clone, Copy)]
 pub struct Sheet {
     pub signals: usize,
     pub cycle: u32,
@@ -28,14 +28,14 @@ pub struct Sheet {
 }
 
 // A reading: the verdict, and beside it the numbers, which are all 0 where the verdict is a refusal.
-#[derive(Drop)]
+#[derive(Clone, Copy)]
 pub struct Reading {
     pub verdict: Verdict,
     pub sheet: Sheet,
 }
 
 // A reading whose columns stand in lent arrays.
-#[derive(Drop)]
+#[derive(Clone, Copy)]
 pub struct Head {
     pub verdict: Verdict,
     pub signals: usize,
@@ -49,13 +49,11 @@ impl Sheet {
 
 // The limit of the code is that of the definition. The body is empty: the contract is all there is to this.
 fn limits()
-    ensures* { do
-      most ← (⟦Sheet::MAX_BYTES⟧).entry
-      ⌜ most ≡ max_bytes ⌝ }
+    ensures { Sheet.MAX_BYTES ≡ max_bytes }
 {}
 
 // What a byte is to the reader.
-#[derive(Drop)]
+#[derive(Clone, Copy)]
 enum Byte {
     Digit(u32),
     Space,
@@ -64,7 +62,7 @@ enum Byte {
 }
 
 // A number with the byte that ended it: its value, and the cursor past that byte.
-#[derive(Drop)]
+#[derive(Clone, Copy)]
 enum Number {
     Spaced(u32, usize),
     Ended(u32, usize),
@@ -72,21 +70,21 @@ enum Number {
 }
 
 // A section's count: how many lines, and the cursor past its own line; or the fault that stopped reading.
-#[derive(Drop)]
+#[derive(Clone, Copy)]
 enum Count {
     Of(usize, usize),
     Wrong(Code),
 }
 
 // Where reading stands after some lines: past the last of them, or at one that cannot be read.
-#[derive(Drop)]
+#[derive(Clone, Copy)]
 enum Stand {
     At(usize),
     Stopped,
 }
 
 // What the sections come to beside their columns: how many signals, and the cycle; or the fault that stopped reading.
-#[derive(Drop)]
+#[derive(Clone, Copy)]
 enum Outcome {
     Whole(usize, u32),
     Fault(Code),

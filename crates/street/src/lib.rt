@@ -16,7 +16,7 @@ ghost use Rattle.street.specs.Steps.{built};
 use road::Road;
 
 // The refusals of document 01, in the order of its table, and then those of 02; `code_number` answers the number of each.
-#[derive(Drop)]
+#[derive(Clone, Copy)]
 pub enum Code {
     Sheet,
     Count,
@@ -34,14 +34,14 @@ pub enum Code {
 }
 
 // A numbered refusal: what was wrong, and at which signal or link, counted from 1; 0 where the code has no place.
-#[derive(Drop)]
+#[derive(Clone, Copy)]
 pub struct Refusal {
     pub code: Code,
     pub place: u32,
 }
 
 // What a check comes to.
-#[derive(Drop)]
+#[derive(Clone, Copy)]
 pub enum Verdict {
     Passed,
     Refused(Refusal),
@@ -88,7 +88,7 @@ pub fn bounded(signals: usize) -> usize
 }
 
 // A street whose checks have all passed, as the search needs it: a road, the cycle in ticks, and each signal's red in ticks.
-#[derive(Drop)]
+#[derive(Clone, Copy)]
 pub struct Street {
     pub road: Road,
     pub cycle: u32,
@@ -96,7 +96,7 @@ pub struct Street {
 }
 
 // What the constructor answers: the verdict, and the street beside it, all 0 where the verdict is a refusal.
-#[derive(Drop)]
+#[derive(Clone, Copy)]
 pub struct Built {
     pub verdict: Verdict,
     pub street: Street,
@@ -182,23 +182,10 @@ impl Street {
 
 // The limits of the code are those of the definitions. The body is empty: the contract is all there is to this.
 fn limits()
-    ensures* signals { do
-      least ← (⟦Street::MIN_SIGNALS⟧).entry
-      most ← (⟦Street::MAX_SIGNALS⟧).entry
-      ⌜ (least ≡ min_signals) × (most ≡ max_signals) ⌝ }
-    ensures* ticks { do
-      least ← (⟦Street::MIN_CYCLE⟧).entry
-      most ← (⟦Street::MAX_CYCLE⟧).entry
-      ⌜ (least ≡ min_cycle) × (most ≡ max_cycle) ⌝ }
-    ensures* roads { do
-      far ← (⟦Street::MAX_DISTANCE⟧).entry
-      slow ← (⟦Street::MIN_SPEED⟧).entry
-      fast ← (⟦Street::MAX_SPEED⟧).entry
-      long ← (⟦Street::MAX_PLATOON⟧).entry
-      ⌜ (far ≡ max_distance) × (slow ≡ min_speed) × (fast ≡ max_speed) × (long ≡ max_platoon) ⌝ }
-    ensures* traffic { do
-      most ← (⟦Street::MAX_VOLUME⟧).entry
-      close ← (⟦Street::MIN_HEADWAY⟧).entry
-      apart ← (⟦Street::MAX_HEADWAY⟧).entry
-      ⌜ (most ≡ max_volume) × (close ≡ min_headway) × (apart ≡ max_headway) ⌝ }
+    ensures signals { (Street.MIN_SIGNALS ≡ min_signals) × (Street.MAX_SIGNALS ≡ max_signals) }
+    ensures ticks { (Street.MIN_CYCLE ≡ min_cycle) × (Street.MAX_CYCLE ≡ max_cycle) }
+    ensures roads { (Street.MAX_DISTANCE ≡ max_distance) × (Street.MIN_SPEED ≡ min_speed)
+        × (Street.MAX_SPEED ≡ max_speed) × (Street.MAX_PLATOON ≡ max_platoon) }
+    ensures traffic { (Street.MAX_VOLUME ≡ max_volume) × (Street.MIN_HEADWAY ≡ min_headway)
+        × (Street.MAX_HEADWAY ≡ max_headway) }
 {}

@@ -13,7 +13,7 @@ use street::Street;
 
 // A direction's band, in halves: its width, and the smallest start that attains it, an instant at signal 1 outbound and at
 // signal n inbound. A width of 0 has start 0.
-#[derive(Drop)]
+#[derive(Clone, Copy)]
 pub struct Band {
     pub width: u32,
     pub start: u32,

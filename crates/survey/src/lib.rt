@@ -21,14 +21,14 @@ use sheet::{Reading, Sheet};
 use street::{Code, Refusal, Street, Verdict, refused};
 
 // Where a row's signal stands, in metres: from the origin, or from the signal of the row before.
-#[derive(Drop)]
+#[derive(Clone, Copy)]
 pub enum Position {
     Chainage(f64),
     Gap(f64),
 }
 
 // A row: its signal's position, the two speeds of the link that ends there, in metres a second, and the red that the crew typed, in ticks.
-#[derive(Drop)]
+#[derive(Clone, Copy)]
 pub struct Row {
     pub position: Position,
     pub outbound: f64,
@@ -85,14 +85,11 @@ impl Row {
 
 // The numbers of the code are those of the definitions. The body is empty: the contract is all there is to this.
 fn limits()
-    ensures* { do
-      most ← (⟦Row::MAX_EIGHTHS⟧).entry
-      eighth ← (⟦Row::EIGHTH⟧).entry
-      ⌜ (most ≡ max_eighths) × (eighth ≡ thousandths 1) ⌝ }
+    ensures { (Row.MAX_EIGHTHS ≡ max_eighths) × (Row.EIGHTH ≡ thousandths 1) }
 {}
 
 // What a row comes to, in eighths: the running distance of its signal, and its outbound and inbound speed; or it is bad.
-#[derive(Drop)]
+#[derive(Clone, Copy)]
 enum Judged {
     Good(u32, u32, u32),
     Bad,

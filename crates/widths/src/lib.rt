@@ -14,7 +14,7 @@ use street::{Code, Street, Verdict};
 
 // What a caller asks for: the equal plan, a width for one direction, widths by the platoons' lengths, outbound and then inbound, or by
 // their volumes and a headway (02, 2026-03). Widths and lengths are in halves, volumes in vehicles an hour, a headway is in ticks.
-#[derive(Drop)]
+#[derive(Clone, Copy)]
 pub enum Request {
     Equal,
     Outbound(u32),
@@ -24,7 +24,7 @@ pub enum Request {
 }
 
 // What a request comes to: the equal plan as it is, or moved so that one direction has this width.
-#[derive(Drop)]
+#[derive(Clone, Copy)]
 pub enum Shift {
     Unmoved,
     Outbound(u32),
@@ -32,7 +32,7 @@ pub enum Shift {
 }
 
 // The two widths that a plan reports.
-#[derive(Drop)]
+#[derive(Clone, Copy)]
 pub struct Widths {
     pub outbound: u32,
     pub inbound: u32,

@@ -13,12 +13,11 @@ ghost use Rattle.writer.specs.Writing.{wrote_or, WritesSheet};
 ghost use Rattle.writer.specs.RoundTrips.{max_sheet};
 ghost use Rattle.writer.specs.Steps.{section_text};
 
-use bytes::copy;
-use decimal::{LINE_END, SPACE, write_ended};
+use decimal::{LINE_END, SPACE, copy, write_ended};
 use street::{Refusal, Verdict, checks};
 
 // How many bytes the sheet has that was written, or a numbered refusal.
-#[derive(Drop)]
+#[derive(Clone, Copy)]
 pub enum Writing {
     Wrote(usize),
     Refused(Refusal),
@@ -32,9 +31,7 @@ impl Writing {
 
 // The limit of the code is that of the definition. The body is empty: the contract is all there is to this.
 fn limits()
-    ensures* { do
-      most ← (⟦Writing::MAX_BYTES⟧).entry
-      ⌜ most ≡ max_sheet ⌝ }
+    ensures { Writing.MAX_BYTES ≡ max_sheet }
 {}
 
 // A line for each pair of two columns, whether of signals or of links, from a place on.

@@ -1,0 +1,22 @@
+-- `flat::plan` meets its contract: each case of the answer has the fields that its numbers have. B is read off its bits and fits them.
+use mathlib.Core.Path.{sym, ap, ◌∙◌}
+use mir.Syntax.{w32}
+use mir.Val.{SFits}
+use mir.ValLaws.{to_z-of_z}
+use Rattle.flat.specs.Flat.{flat_plan}
+use Rattle.flat.proofs.Laws.{plan_fields_lem, plan-refused}
+use borrow.Author.Rules.{rules}
+use Rattle.flat.proofs.plan.Goals as goal
+
+-- B fits its type
+fits : (c : goal.After-struct_told-1) → SFits w32 c.in-Planned.p.b
+fits c = search rules
+
+pub returns-in-Planned : goal.returns-in-Planned
+returns-in-Planned c =
+    let p = c.in-Planned.p in
+    plan_fields_lem p _ (to_z-of_z w32 p.b (fits c)) ∙ ap flat_plan (sym c.in-Planned.is)
+
+pub returns-in-Refused : goal.returns-in-Refused
+returns-in-Refused c =
+    plan-refused c.in-Refused.f c.code_number.result c.code_number.ensures ∙ ap flat_plan (sym c.in-Refused.is)

@@ -1,0 +1,117 @@
+-- `plan_line` meets its contract: five numbers, each with its end byte, are the line's items with a space between each two and the line
+-- end after the last. B is a field, which the code reads off its bits; it fits its type, so that is B again.
+use Prim.Native.Nat.{ℕ, ◌+◌, ◌≤◌}
+use native.Mathlib.Omega.{arith}
+use mathlib.Core.Path.{◌≡◌, ap}
+use mathlib.Core.List.{List, [], ◌∷◌, ◌++◌}
+use lib.IntN.{ℤ}
+use lib.ListN.{length}
+use mir.Syntax.{w32}
+use mir.Val.{SFits, to_z, of_z}
+use mir.ValLaws.{to_z-of_z}
+use borrow.Author.Rules.{rules}
+use Rattle.decimal.specs.Decimal.{decimal, signed_decimal}
+use Rattle.decimal.specs.Steps.{Writes}
+use Rattle.decimal.proofs.Writing.{writes_twice, writes_as}
+use Rattle.plans.specs.declared.Plan.{Plan}
+use Rattle.printed.specs.Text.{plan_line}
+use Rattle.printed.proofs.Lines.{five_items, five_sizes}
+use Rattle.printed.proofs.plan_line.Goals as goal
+
+-- an item and the space behind it, and the items that make the line
+abbrev item : ℕ → List ℕ
+item x = decimal x ++ 32 ∷ []
+
+abbrev b_item : ℤ → List ℕ
+b_item b = signed_decimal b ++ 32 ∷ []
+
+abbrev last : Plan → List ℕ
+last p = decimal p.rounded ++ 10 ∷ []
+
+items : (p : Plan) → item p.reference ++ b_item p.b ++ item p.outbound ++ item p.inbound ++ last p ≡ plan_line p
+items p = five_items (decimal p.reference) (signed_decimal p.b) (decimal p.outbound) (decimal p.inbound) (decimal p.rounded)
+
+-- how long they are, so that the room for the line is room for each
+abbrev size : Plan → ℕ
+size p = length (item p.reference) + length (b_item p.b) + length (item p.outbound) + length (item p.inbound) + length (last p)
+
+room : (c : goal.Start) → c.args.at + size c.args.plan ≤ length c.args.bytes.now
+room c =
+    let p = c.args.plan in
+    let sizes = five_sizes (item p.reference) (b_item p.b) (item p.outbound) (item p.inbound) (last p) in
+    omega (arith, ap length (items p), c.requires)
+
+-- B, read off its bits, is B again
+b_again : (c : goal.Start) → b_item (to_z w32 (of_z w32 c.args.plan.b)) ≡ b_item c.args.plan.b
+b_again c = ap b_item (to_z-of_z w32 c.args.plan.b fits)
+  where
+    fits : SFits w32 c.args.plan.b
+    fits = search rules
+
+-- the way back from each item to the one before it
+abbrev at_outbound : goal.After-write_ended-inbound → goal.After-write_ended-outbound
+at_outbound c = c.before.before.before.before
+
+abbrev at_b : goal.After-write_ended-outbound → goal.After-write_signed-b
+at_b c = c.before.before.before.before
+
+abbrev at_c : goal.After-write_signed-b → goal.After-write_ended-c
+at_c c = c.before.before.before.before.before
+
+abbrev entry : goal.After-write_ended-c → goal.Start
+entry c = c.before.before.before
+
+-- the outbound width, in its own place
+outbound_item :
+    (c : goal.After-write_ended-outbound)
+    → let signed = (at_b c).write_signed-b in
+    Writes
+    signed.result
+    (item (entry (at_c (at_b c))).args.plan.outbound)
+    signed.last.0
+    c.write_ended-outbound.new.bytes
+    c.write_ended-outbound.result
+outbound_item c = c.write_ended-outbound.ensures
+
+pub write_ended-c-requires : goal.write_ended-c-requires
+write_ended-c-requires c = omega (arith, room c.before.before)
+
+pub write_signed-b-requires : goal.write_signed-b-requires
+write_signed-b-requires c =
+    let first = c.before.before.before.before in
+    omega (arith, room (entry first), ap length (b_again (entry first)), first.write_ended-c)
+
+pub write_ended-outbound-requires : goal.write_ended-outbound-requires
+write_ended-outbound-requires c =
+    let signed = c.before.before.before in
+    let first = at_c signed in
+    omega (arith, room (entry first), ap length (b_again (entry first)), first.write_ended-c, signed.write_signed-b)
+
+pub write_ended-inbound-requires : goal.write_ended-inbound-requires
+write_ended-inbound-requires c =
+    let third = c.before.before.before in
+    let signed = at_b third in
+    let first = at_c signed in
+    omega (arith, room (entry first), ap length (b_again (entry first)), first.write_ended-c, signed.write_signed-b, third.write_ended-outbound)
+
+pub write_ended-requires : goal.write_ended-requires
+write_ended-requires c =
+    let fourth = c.before.before.before in
+    let third = at_outbound fourth in
+    let signed = at_b third in
+    let first = at_c signed in
+    let b = ap length (b_again (entry first)) in
+    omega (arith, room (entry first), first.write_ended-c, signed.write_signed-b, third.write_ended-outbound, fourth.write_ended-inbound)
+
+pub returns : goal.returns
+returns c =
+    let fifth = c.before.before in
+    let fourth = fifth.before.before.before.before in
+    let third = at_outbound fourth in
+    let signed = at_b third in
+    let first = at_c signed in
+    let start = entry first in
+    let within : start.args.at ≤ length start.args.bytes.now = omega (arith, room start) in
+    let b = writes_as (b_again start) signed.write_signed-b.ensures in
+    let widths = writes_twice within (writes_twice within (writes_twice within first.write_ended-c.ensures b) (outbound_item third)) fourth.write_ended-inbound.ensures in
+    writes_as (items start.args.plan) (writes_twice within widths fifth.write_ended.ensures)

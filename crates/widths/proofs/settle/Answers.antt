@@ -1,0 +1,55 @@
+-- `widths::settle` meets its contract: each request's shift is that of its arm; platoons that passed are short enough, and so are those of volumes that passed.
+use Prim.Native.Nat.{◌≤◌}
+use mathlib.Core.Path.{sym, ap, ap₂, ◌∙◌}
+use native.Mathlib.Omega.{arith}
+use Rattle.street.specs.Steps.{timed_street}
+use Rattle.street.specs.Limits.{max_platoon}
+use Rattle.traffic.specs.Volumes.{platoon_of}
+use Rattle.traffic.proofs.VolumeLaws.{Judged}
+use Rattle.widths.specs.Moved.{platoon_shift, shift_of}
+use Rattle.widths.specs.Checks.{request_check}
+use Rattle.widths.proofs.WidthLaws.{platoons_short, traffic_passed}
+use Rattle.widths.proofs.settle.Goals as goal
+
+-- volumes that passed their check
+light : (c : goal.In-Volumes) → let a = c.request-in-Volumes-1.given.0 in let C = c.args.s.cycle in Judged a.0 a.1.0 a.1.1.0 × (platoon_of C a.1.1.0 a.0 ≤ max_platoon) × (platoon_of C a.1.1.0 a.1.0 ≤ max_platoon)
+light c =
+    let told = c.request-in-Volumes-1.given in
+    traffic_passed c.args.s.cycle told.0.0 told.0.1.0 told.0.1.1.0
+    (sym (ap (λ x. request_check x (timed_street c.args.s)) told.1) ∙ c.requires.1)
+
+pub favoured-requires : goal.favoured-requires
+favoured-requires c =
+    let told = c.request-in-Platoons-1.given in
+    let short = platoons_short told.0.0 told.0.1.0 (sym (ap (λ x. request_check x (timed_street c.args.s)) told.1) ∙ c.requires.1) in
+    (c.requires.0, short.0, short.1)
+
+pub platoon-requires : goal.platoon-requires
+platoon-requires c = (c.requires.0.sound.longest, (light c).0.headway, (light c).0.outbound)
+
+pub platoon-requires-in-Volumes : goal.platoon-requires-in-Volumes
+platoon-requires-in-Volumes c = (c.requires.0.sound.longest, (light c.before).0.headway, (light c.before).0.inbound)
+
+pub favoured-requires-in-Volumes : goal.favoured-requires-in-Volumes
+favoured-requires-in-Volumes c =
+    let told = c.before.before in
+    (told.requires.0, omega (arith, c.platoon.ensures, (light told).1), omega (arith, c.platoon-in-Volumes.ensures, (light told).2))
+
+pub returns-in-Outbound : goal.returns-in-Outbound
+returns-in-Outbound c =
+    sym (ap (λ x. shift_of x (timed_street c.args.s)) c.in-Outbound.is)
+
+pub returns-in-Inbound : goal.returns-in-Inbound
+returns-in-Inbound c =
+    sym (ap (λ x. shift_of x (timed_street c.args.s)) c.in-Inbound.is)
+
+pub returns-in-Platoons : goal.returns-in-Platoons
+returns-in-Platoons c =
+    c.favoured.ensures ∙ sym (ap (λ x. shift_of x (timed_street c.args.s)) c.in-Platoons.is)
+
+pub returns-in-Volumes : goal.returns-in-Volumes
+returns-in-Volumes c =
+    let s = timed_street c.args.s in
+    c.favoured-in-Volumes.ensures
+    ∙ ap₂ (platoon_shift s) c.platoon.ensures c.platoon-in-Volumes.ensures
+    ∙ sym (ap (λ x. shift_of x s) c.in-Volumes.is)
