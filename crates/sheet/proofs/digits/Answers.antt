@@ -10,7 +10,7 @@ use Rattle.sheet.proofs.Numbers.{more-past, more-space, more-line_end, more_othe
 use Rattle.sheet.proofs.digits.Goals as goal
 
 -- the byte that the match looked at is a digit, of the value that it took out
-digit_there : (c : goal.In-Digit-2 →
+digit_there : (c : goal.In-Digit-2) →
     kind_of (get_or c.args.bytes.now c.loop-at.at 0)
     ≡ Digit c.in-Digit.digit
 digit_there c = sym c.kind.ensures ∙ c.in-Digit.is

@@ -14,7 +14,7 @@ use Rattle.stretches.proofs.widest.Goals as goal
 abbrev red : goal.Start → ℕ → ℕ
 red c j = get_or c.args.reds.now j 0
 
-fits : (c : goal.After-bounded-count → Fitting c.args.h c.bounded-count.result (red c.before) c.args.ends.now
+fits : (c : goal.After-bounded-count) → Fitting c.args.h c.bounded-count.result (red c.before) c.args.ends.now
 fits c = subst (λ (k : ℕ). Fitting c.args.h k (red c.before) c.args.ends.now) (sym c.bounded-count.ensures) c.requires.2
 
 pub longest-from_zero-requires : goal.longest-from_zero-requires

@@ -16,12 +16,12 @@ use Rattle.survey.proofs.RowLaws.{fault_at_lem, fault_nowhere, not_both, Good_ro
 use Rattle.survey.proofs.fill.Goals as goal
 
 -- the first row, and each that follows, as they were judged
-started : (c : goal.In-Good → let s = c.start-1.given.0 in Good_row (in_rows c.args.rows) 0 s.0 s.1.0 s.1.1.0
+started : (c : goal.In-Good) → let s = c.start-1.given.0 in Good_row (in_rows c.args.rows) 0 s.0 s.1.0 s.1.1.0
 started c =
     let s = c.start-1.given in
     first_good (in_rows c.args.rows) s.0.0 s.0.1.0 s.0.1.1.0 (sym c.first.ensures ∙ s.1)
 
-followed : (c : goal.In-Good-judge →
+followed : (c : goal.In-Good-judge) →
     let s = c.distance-1.given.0 in
     Good_row (in_rows c.args.rows) (c.loop-link.link + 1) s.0 s.1.0 s.1.1.0
 followed c =

@@ -39,10 +39,10 @@ returns c =
     let out = get_or c.args.outbound.now c.args.k 0 in
     let back = get_or c.args.inbound.now c.args.k 0 in
     let there = c.link_time-there in
-    let home = c.link_time-home in (
-      there.ensures.0 ∙ ap (λ (d : ℕ). ticks d out) long,
-      (
-        home.ensures.0 ∙ ap (λ (d : ℕ). ticks d back) long,
-        marked c.mark.result there.result.whole home.result.whole _ _ c.mark.ensures (there.ensures.1 ∙ ap (λ (d : ℕ). whole d out) long) (home.ensures.1 ∙ ap (λ (d : ℕ). whole d back) long),
-      ),
-    )
+    let home = c.link_time-home in
+    record {
+      outbound = there.ensures.0 ∙ ap (λ (d : ℕ). ticks d out) long;
+      inbound = home.ensures.0 ∙ ap (λ (d : ℕ). ticks d back) long;
+      rounded =
+          marked c.mark.result there.result.whole home.result.whole _ _ c.mark.ensures (there.ensures.1 ∙ ap (λ (d : ℕ). whole d out) long) (home.ensures.1 ∙ ap (λ (d : ℕ). whole d back) long);
+    }
