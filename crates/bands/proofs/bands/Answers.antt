@@ -6,15 +6,16 @@ use Rattle.bands.specs.declared.Direction.TheVariants.{Outbound, Inbound}
 use Rattle.bands.proofs.SearchLaws.{fitting}
 use Rattle.bands.proofs.MeasureLaws.{ends_on, band-way}
 use Rattle.bands.proofs.bands.Goals as goal
+use Rattle.bands.proofs.bands.Goals.{After-ends, After-ends-2, Start}
 
 -- where the outbound ends are out, and where the inbound ones are: the entry, and the street
-abbrev start : goal.After-ends → goal.Start
+abbrev start : After-ends → Start
 start c = c.before.before.before.before.before.before.before.before.before.before.before
 
-abbrev start2 : goal.After-ends-2 → goal.Start
+abbrev start2 : After-ends-2 → Start
 start2 c = start c.before.before.before.before.before.before.before.before
 
-abbrev street_of : goal.Start → Timed
+abbrev street_of : Start → Timed
 street_of c = timed_street c.args.s
 
 pub ends-requires : goal.ends-requires

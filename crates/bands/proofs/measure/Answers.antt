@@ -6,8 +6,9 @@ use Rattle.street.specs.declared.Verdict.TheVariants.{Passed}
 use Rattle.street.proofs.Sound.{verdict_checks, passed_street, passed_sound}
 use Rattle.bands.proofs.MeasureLaws.{measure_short, measure_refused, measure_built}
 use Rattle.bands.proofs.measure.Goals as goal
+use Rattle.bands.proofs.measure.Goals.{Start}
 
-abbrev lists : goal.Start → Lists
+abbrev lists : Start → Lists
 lists c = typed c.args.cycle c.args.reds.now c.args.distances.now c.args.outbound.now c.args.inbound.now
 
 pub returns-then-offsets-reds : goal.returns-then-offsets-reds

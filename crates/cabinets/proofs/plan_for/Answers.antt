@@ -11,32 +11,33 @@ use Rattle.seconds.specs.Seconds.{seconds_check}
 use Rattle.cabinets.specs.Calls.{seconds_checks}
 use Rattle.cabinets.proofs.CallLaws.{opening_refused, second-refused, as_plan, all_refused, plan-refused, convert_ready, plan_converted}
 use Rattle.cabinets.proofs.plan_for.Goals as goal
+use Rattle.cabinets.proofs.plan_for.Goals.{After-check-counted, After-opening-opened, After-plan_for-answer, Start}
 
 -- once the opening has answered: the function's entry, the lists as they were typed, and the lent list
-abbrev start : goal.After-opening-opened → goal.Start
+abbrev start : After-opening-opened → Start
 start c = c.before.before.before.before.before.before
 
-abbrev lists : goal.After-opening-opened → Lists
+abbrev lists : After-opening-opened → Lists
 lists c = let a = (start c).args in typed a.cycle a.reds.now a.distances.now a.outbound.now a.inbound.now
 
-abbrev lent : goal.After-opening-opened → List ℕ
+abbrev lent : After-opening-opened → List ℕ
 lent c = (start c).args.seconds.now
 
 -- once 13 is judged, and once the plan's call has answered: the opening before it
-abbrev opened : goal.After-check-counted → goal.After-opening-opened
+abbrev opened : After-check-counted → After-opening-opened
 opened c = c.before.before.before
 
-abbrev judged : goal.After-plan_for-answer → goal.After-check-counted
+abbrev judged : After-plan_for-answer → After-check-counted
 judged c = c.before.before.before.before
 
 -- the list as the plan's call left it
-abbrev offsets_of : goal.After-plan_for-answer → List ℕ
+abbrev offsets_of : After-plan_for-answer → List ℕ
 offsets_of c = c.plan_for-answer.new.offsets
 
-whole : (c : goal.After-plan_for-answer) → seconds_check (lists (opened (judged c))).cycle ≡ Passed
+whole : (c : After-plan_for-answer) → seconds_check (lists (opened (judged c))).cycle ≡ Passed
 whole c = sym (judged c).check-counted.ensures ∙ c.in_default-counted.is
 
-same : (c : goal.After-plan_for-answer) → let o = opened (judged c) in seconds_checks (start o).args.request (lists o) (length (lent o)) ≡ request_checks (start o).args.request (lists o) (length (lent o))
+same : (c : After-plan_for-answer) → let o = opened (judged c) in seconds_checks (start o).args.request (lists o) (length (lent o)) ≡ request_checks (start o).args.request (lists o) (length (lent o))
 same c =
     let o = opened (judged c) in
     as_plan (start o).args.request (lists o) (length (lent o)) (whole c)

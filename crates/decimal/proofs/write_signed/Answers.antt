@@ -10,16 +10,17 @@ use Rattle.decimal.specs.Decimal.{decimal, signed_decimal}
 use Rattle.decimal.proofs.Signs.{short, minused, short_fits, minus_fits, minus_casts, minus-text, plus_casts, plus_text}
 use Rattle.decimal.proofs.Writing.{writes_byte, writes_twice, writes_as}
 use Rattle.decimal.proofs.write_signed.Goals as goal
+use Rattle.decimal.proofs.write_signed.Goals.{Else-z-lt0, Then-z-lt0}
 
 -- the text to be written, with the sign before it and without it
 sign_text :
-    (c : goal.Then-z-lt0)
+    (c : Then-z-lt0)
     → 45 ∷ (decimal (nat_abs (minused c.args.z c.ranges.z)) ++ c.args.end ∷ []) ≡ signed_decimal c.args.z ++ c.args.end ∷ []
 sign_text c =
     ap (λ (t : List ℕ). t ++ c.args.end ∷ []) (minus-text c.args.z c.ranges.z c.if-z-lt0.true)
 
 plain_text :
-    (c : goal.Else-z-lt0)
+    (c : Else-z-lt0)
     → decimal (nat_abs (short c.args.z c.ranges.z)) ++ c.args.end ∷ [] ≡ signed_decimal c.args.z ++ c.args.end ∷ []
 plain_text c =
     ap (λ (t : List ℕ). t ++ c.args.end ∷ []) (plus_text c.args.z c.ranges.z c.if-z-lt0.false)

@@ -33,7 +33,7 @@ returns-then-x c = sym (is_whole c.args.x 0 (zero_is c.args.x (yes c.if-x.true))
 pub whole-requires : goal.whole-requires
 unfolding of_bits
 whole-requires c =
-    let held = subst T (sym c.well-formed.0.1) tt in
+    let held = subst T (sym c.well_formed.0.1) tt in
     let lo : T (le eighth c.args.x) = yes c.if-x-2.true in
     let hi : T (le c.args.x largest) = yes c.if-x-3.true in
     (from-least c.args.x held lo hi, to_most c.args.x held lo hi)
@@ -41,7 +41,7 @@ whole-requires c =
 pub returns-then-x-3 : goal.returns-then-x-3
 unfolding of_bits
 returns-then-x-3 c =
-    c.whole.ensures ∙ in_eighths c.args.x (subst T (sym c.well-formed.0.1) tt) (yes c.if-x-2.true) (yes c.if-x-3.true)
+    c.whole.ensures ∙ in_eighths c.args.x (subst T (sym c.well_formed.0.1) tt) (yes c.if-x-2.true) (yes c.if-x-3.true)
 
 pub returns-else-x-3 : goal.returns-else-x-3
 unfolding of_bits

@@ -12,13 +12,14 @@ use Rattle.eighths.specs.declared.Eighths.TheVariants.{Whole, Outside}
 use Rattle.eighths.proofs.Patterns.{Shifted, shifted}
 use Rattle.eighths.proofs.Wholes.{Within, within, a_number, castable, cast_is}
 use Rattle.eighths.proofs.whole.Goals as goal
+use Rattle.eighths.proofs.whole.Goals.{Start}
 
 -- what the caller ensures of the number, and what is then known of its pattern
-sized : (c : goal.Start) → Within c.args.x
+sized : (c : Start) → Within c.args.x
 sized c = within c.args.x c.requires.0 c.requires.1
 
-shape : (c : goal.Start) → Shifted (to_bits binary64 c.args.x) (num c.args.x) (den c.args.x)
-shape c = shifted c.args.x (subst T (sym c.well-formed.0.1) tt) (sized c).positive (sized c).low (sized c).high
+shape : (c : Start) → Shifted (to_bits binary64 c.args.x) (num c.args.x) (den c.args.x)
+shape c = shifted c.args.x (subst T (sym c.well_formed.0.1) tt) (sized c).positive (sized c).low (sized c).high
 
 pub float_to_bits-bits : goal.float_to_bits-bits
 float_to_bits-bits c = a_number c.args.x (sized c).positive
@@ -43,4 +44,4 @@ unfolding whole_of
 returns c =
     let s = c.before.before in
     let x = s.args.x in
-    ap Whole (cast_is x (float-to-int-t7 c)) ∙ sym (ap (λ (b : Bool). cond b (Whole (num x / den x)) Outside) (eq-eqb (num x % den x) 0 ((shape s).whole (omega (arith, c.if-fraction-ne0.false)))))
+    ap Whole (cast_is x (float_to_int-result c)) ∙ sym (ap (λ (b : Bool). cond b (Whole (num x / den x)) Outside) (eq-eqb (num x % den x) 0 ((shape s).whole (omega (arith, c.if-fraction-ne0.false)))))

@@ -7,9 +7,10 @@ use Rattle.flat.specs.Flat.{flat_plan}
 use Rattle.flat.proofs.Laws.{plan_fields_lem, plan-refused}
 use borrow.Author.Rules.{rules}
 use Rattle.flat.proofs.plan.Goals as goal
+use Rattle.flat.proofs.plan.Goals.{After-struct_told-1}
 
 -- B fits its type
-fits : (c : goal.After-struct_told-1) → SFits w32 c.in-Planned.p.b
+fits : (c : After-struct_told-1) → SFits w32 c.in-Planned.p.b
 fits c = search rules
 
 pub returns-in-Planned : goal.returns-in-Planned

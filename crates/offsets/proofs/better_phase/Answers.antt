@@ -3,14 +3,15 @@ use native.Mathlib.Omega.{arith}
 use lib.ListN.{get_or}
 use Rattle.offsets.proofs.OffsetLaws.{HasU, has_us, choice_even, choice_odd}
 use Rattle.offsets.proofs.better_phase.Goals as goal
+use Rattle.offsets.proofs.better_phase.Goals.{After-pair-w}
 
 -- what each phase's u is taken from
-even : (c : goal.After-pair-w) → HasU c.args.cycle c.args.red (get_or c.pair-w.result 0 0)
+even : (c : After-pair-w) → HasU c.args.cycle c.args.red (get_or c.pair-w.result 0 0)
 even c =
     let a = c.args in
     (has_us a.cycle a.from a.to a.red c.pair-w.result c.requires.0 c.requires.4 c.pair-w.ensures).0
 
-odd : (c : goal.After-pair-w) → HasU c.args.cycle c.args.red (get_or c.pair-w.result 1 0)
+odd : (c : After-pair-w) → HasU c.args.cycle c.args.red (get_or c.pair-w.result 1 0)
 odd c =
     let a = c.args in
     (has_us a.cycle a.from a.to a.red c.pair-w.result c.requires.0 c.requires.4 c.pair-w.ensures).1

@@ -7,15 +7,16 @@ use Rattle.street.specs.Steps.{max_halves}
 use Rattle.widths.specs.Steps.{shift_width}
 use Rattle.offsets.proofs.OffsetLaws.{choice_small, lowering_small, offset_parts}
 use Rattle.offsets.proofs.offset_at.Goals as goal
+use Rattle.offsets.proofs.offset_at.Goals.{After-better_phase-better, After-lowered_by-down}
 
 -- the phase and the u that were found, and the lowering, are small
-near : (c : goal.After-better_phase-better) → (c.better_phase-better.result.phase ≤ max_cycle) × (c.better_phase-better.result.u ≤ max_halves)
+near : (c : After-better_phase-better) → (c.better_phase-better.result.phase ≤ max_cycle) × (c.better_phase-better.result.u ≤ max_halves)
 near c =
     let a = c.args in
     let small = choice_small a.cycle a.from a.to a.red c.requires.0 c.requires.4 in
     omega (arith, ap (λ x. x.phase) c.better_phase-better.ensures, ap (λ x. x.u) c.better_phase-better.ensures, c.requires.1)
 
-low : (c : goal.After-lowered_by-down) → c.lowered_by-down.result ≤ shift_width c.args.shift + c.better_phase-better.result.u + 2 * c.args.red
+low : (c : After-lowered_by-down) → c.lowered_by-down.result ≤ shift_width c.args.shift + c.better_phase-better.result.u + 2 * c.args.red
 low c =
     let a = c.args in
     omega (arith, c.lowered_by-down.ensures, lowering_small a.raised a.red c.better_phase-better.result.u a.shift)

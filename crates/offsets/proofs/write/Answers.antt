@@ -13,11 +13,12 @@ use Rattle.search.proofs.Pairs.{anchor_lt}
 use Rattle.offsets.specs.Moved.{moved_offset}
 use Rattle.offsets.proofs.OffsetLaws.{ready_lt, side_small, offset_at_is}
 use Rattle.offsets.proofs.write.Goals as goal
+use Rattle.offsets.proofs.write.Goals.{Start}
 
-abbrev street_of : goal.Start → Timed
+abbrev street_of : Start → Timed
 street_of c = timed_by c.args.cycle c.args.n c.args.reds.now c.args.outbound.now c.args.inbound.now
 
-reference_in : (c : goal.Start) → (c.args.c < c.args.n) × (c.args.n ≤ max_signals)
+reference_in : (c : Start) → (c.args.c < c.args.n) × (c.args.n ≤ max_signals)
 reference_in c = (ready_lt (street_of c) c.args.x.now c.args.c c.args.raised c.requires.0, c.requires.0.base.sound.few)
 
 pub offset_bounds-x-c : goal.offset_bounds-x-c

@@ -12,12 +12,13 @@ use Rattle.street.specs.Steps.{timed_street}
 use Rattle.offsets.proofs.OffsetLaws.{moved_lt, red_end_man, red_start_man}
 use Rattle.plans.proofs.SignedLaws.{reread}
 use Rattle.plans.proofs.numbers.Goals as goal
+use Rattle.plans.proofs.numbers.Goals.{After-signed, Start}
 
-reference_in : (c : goal.Start) → c.args.c < c.args.s.road.signals
+reference_in : (c : Start) → c.args.c < c.args.s.road.signals
 reference_in c = omega (arith, c.requires.1, reference_lt (timed_street c.args.s) c.requires.0.sound.some)
 
 -- the reference's own offset lies on the cycle, and its red is shorter
-on_cycle : (c : goal.Start) → (c.args.f < 2 * c.args.s.cycle) × (get_or c.args.s.reds c.args.c 0 < c.args.s.cycle) × (1 ≤ c.args.s.cycle) × (c.args.s.cycle ≤ max_cycle)
+on_cycle : (c : Start) → (c.args.f < 2 * c.args.s.cycle) × (get_or c.args.s.reds c.args.c 0 < c.args.s.cycle) × (1 ≤ c.args.s.cycle) × (c.args.s.cycle ≤ max_cycle)
 on_cycle c =
     let s = timed_street c.args.s in
     let ok = c.requires.0.sound in
@@ -25,7 +26,7 @@ on_cycle c =
     omega (arith, c.requires.3, moved_lt s c.args.shift (reference s) turns, ok.goes c.args.c (reference_in c), ok.longest)
 
 -- the signed field holds B
-B_read : (c : goal.After-signed) → to_z w32 (of_z w32 c.signed.result) ≡ B (timed_street c.args.s)
+B_read : (c : After-signed) → to_z w32 (of_z w32 c.signed.result) ≡ B (timed_street c.args.s)
 B_read c =
     let base = c.requires.0 in
     let h = 2 * c.args.s.cycle in

@@ -20,42 +20,43 @@ use Rattle.offsets.specs.Steps.{Ready}
 use Rattle.offsets.proofs.OffsetLaws.{ready_lt, own_written}
 use Rattle.plans.proofs.RequestLaws.{passed_room, requested_refused, asked_refused, requested_planned}
 use Rattle.plans.proofs.plan_for.Goals as goal
+use Rattle.plans.proofs.plan_for.Goals.{After-reference-found, After-s-1, After-settle-shift, In-Passed, Start}
 
 -- the lists as they were typed, and the lent list
-abbrev lists : goal.Start → Lists
+abbrev lists : Start → Lists
 lists c = typed c.args.cycle c.args.reds.now c.args.distances.now c.args.outbound.now c.args.inbound.now
 
-abbrev lent : goal.Start → List ℕ
+abbrev lent : Start → List ℕ
 lent c = c.args.offsets.now
 
 -- once the street is out: the function's entry and the constructor's answer; the checks passed, so that it is the street of the lists and sound, and the lent list has room
-abbrev entry : goal.After-s-1 → goal.Start
+abbrev entry : After-s-1 → Start
 entry c = c.before.before.before.before.before.before.before.before.before
 
-abbrev survey : goal.After-s-1 → Built
+abbrev survey : After-s-1 → Built
 survey c = c.new-built.result
 
-passed : (c : goal.After-s-1) → plan_checks (lists (entry c)) (length (lent (entry c))) ≡ Passed
+passed : (c : After-s-1) → plan_checks (lists (entry c)) (length (lent (entry c))) ≡ Passed
 passed c =
     verdict_checks (lists (entry c)) (length (lent (entry c))) (survey c) Passed c.new-built.ensures c.in_default.is
 
-street_is : (c : goal.After-s-1) → (survey c).street ≡ street_of (lists (entry c))
+street_is : (c : After-s-1) → (survey c).street ≡ street_of (lists (entry c))
 street_is c = passed_street (lists (entry c)) (length (lent (entry c))) (survey c) c.new-built.ensures (passed c)
 
-street_sound : (c : goal.After-s-1) → Sound (timed_street (survey c).street)
+street_sound : (c : After-s-1) → Sound (timed_street (survey c).street)
 street_sound c = passed_sound (lists (entry c)) (length (lent (entry c))) (survey c).street (street_is c) (passed c)
 
-room : (c : goal.After-s-1) → (survey c).street.road.signals ≤ length (lent (entry c))
+room : (c : After-s-1) → (survey c).street.road.signals ≤ length (lent (entry c))
 room c = passed_room (lists (entry c)) (length (lent (entry c))) (survey c).street (street_is c) (passed c)
 
 -- after the search: the street that it was made on, each signal's anchor, and all that a plan is made from
-abbrev on : goal.After-reference-found → goal.After-s-1
+abbrev on : After-reference-found → After-s-1
 on c = c.before.before.before.before.before.before.before.before.before.before.before.before
 
-abbrev anchors : goal.After-reference-found → List ℕ
+abbrev anchors : After-reference-found → List ℕ
 anchors c = c.reduce.new.x
 
-ready : (c : goal.After-reference-found) → Ready (timed_street (survey (on c)).street) (anchors c) c.reference-found.result.signal c.reference-found.result.raised
+ready : (c : After-reference-found) → Ready (timed_street (survey (on c)).street) (anchors c) c.reference-found.result.signal c.reference-found.result.raised
 ready c =
     let s = (survey (on c)).street in
     let r = c.reference-found.ensures.each (timed_street s).outbound (timed_street s).inbound (street_sound (on c)) c.reduce.ensures in
@@ -65,21 +66,21 @@ ready c =
       found = r.found;
     }
 
-reference_in : (c : goal.After-reference-found) → (c.reference-found.result.signal < (survey (on c)).street.road.signals) × ((survey (on c)).street.road.signals ≤ max_signals)
+reference_in : (c : After-reference-found) → (c.reference-found.result.signal < (survey (on c)).street.road.signals) × ((survey (on c)).street.road.signals ≤ max_signals)
 reference_in c =
     (ready_lt (timed_street (survey (on c)).street) (anchors c) c.reference-found.result.signal c.reference-found.result.raised (ready c), (street_sound (on c)).few)
 
 -- a request that passed its check, and the width of its shift
-abbrev searched : goal.In-Passed → goal.After-reference-found
+abbrev searched : In-Passed → After-reference-found
 searched c = c.before.before.before
 
-abbrev out : goal.In-Passed → goal.After-s-1
+abbrev out : In-Passed → After-s-1
 out c = on (searched c)
 
-asked_passed : (c : goal.In-Passed) → request_check (entry (out c)).args.request (timed_street (survey (out c)).street) ≡ Passed
+asked_passed : (c : In-Passed) → request_check (entry (out c)).args.request (timed_street (survey (out c)).street) ≡ Passed
 asked_passed c = sym c.check-asked.ensures ∙ c.in-Passed.is
 
-narrow_shift : (c : goal.After-settle-shift) → shift_width c.settle-shift.result ≤ max_halves
+narrow_shift : (c : After-settle-shift) → shift_width c.settle-shift.result ≤ max_halves
 narrow_shift c =
     let s = out c.before in
     subst (λ x. shift_width x ≤ max_halves) (sym c.settle-shift.ensures)

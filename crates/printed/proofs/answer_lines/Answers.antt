@@ -9,18 +9,19 @@ use Rattle.decimal.proofs.Writing.{writes_twice, writes_as}
 use Rattle.plans.specs.declared.Answer.{Answer}
 use Rattle.printed.specs.Text.{plan_line, offset_lines, refusal_line, text_of}
 use Rattle.printed.proofs.answer_lines.Goals as goal
+use Rattle.printed.proofs.answer_lines.Goals.{After-shared_slice_known-1, In-Planned-2, In-Refused-2}
 
 -- the text by the answer's kind
-abbrev offsets : goal.After-shared_slice_known-1 → List ℕ
+abbrev offsets : After-shared_slice_known-1 → List ℕ
 offsets c = c.args.offsets.now
 
-abbrev text : goal.After-shared_slice_known-1 → List ℕ
+abbrev text : After-shared_slice_known-1 → List ℕ
 text c = text_of c.args.answer (offsets c)
 
-planned : (c : goal.In-Planned-2) → text c.before.before ≡ plan_line c.in-Planned.plan ++ offset_lines (offsets c.before.before)
+planned : (c : In-Planned-2) → text c.before.before ≡ plan_line c.in-Planned.plan ++ offset_lines (offsets c.before.before)
 planned c = ap (λ (x : Answer). text_of x (offsets c.before.before)) c.in-Planned.is
 
-refused : (c : goal.In-Refused-2) → text c.before.before ≡ refusal_line c.in-Refused.refusal
+refused : (c : In-Refused-2) → text c.before.before ≡ refusal_line c.in-Refused.refusal
 refused c = ap (λ (x : Answer). text_of x (offsets c.before.before)) c.in-Refused.is
 
 pub plan_line-next-requires : goal.plan_line-next-requires

@@ -9,11 +9,12 @@ use Rattle.road.specs.Limits.{max_signals}
 use Rattle.printed.specs.Text.{text_of, printed_of}
 use Rattle.printed.proofs.Ways.{lent_le}
 use Rattle.printed.proofs.answer_text.Goals as goal
+use Rattle.printed.proofs.answer_text.Goals.{After-lent-n}
 
-few : (c : goal.After-lent-n) → c.lent-n.result ≤ max_signals
+few : (c : After-lent-n) → c.lent-n.result ≤ max_signals
 few c = lent_le c.args.signals c.lent-n.result c.lent-n.ensures
 
-within : (c : goal.After-lent-n) → c.lent-n.result ≤ length c.args.offsets
+within : (c : After-lent-n) → c.lent-n.result ≤ length c.args.offsets
 within c = let most = few c in search rules
 
 pub slice_bounds-offsets-end : goal.slice_bounds-offsets-end

@@ -3,9 +3,10 @@ use Prim.Native.Nat.{ℕ}
 use Rattle.sheet.proofs.Held.{reading_held}
 use Rattle.printed.proofs.Ways.{passed_answers, refused_answers}
 use Rattle.printed.proofs.equal_text.Goals as goal
+use Rattle.printed.proofs.equal_text.Goals.{After-read-reading}
 
 -- once the sheet is read: the room
-abbrev room : goal.After-read-reading → ℕ
+abbrev room : After-read-reading → ℕ
 room c = c.args.room
 
 pub planned-requires : goal.planned-requires

@@ -9,10 +9,11 @@ use Rattle.printed.specs.Text.{offset_lines}
 use Rattle.printed.proofs.Lines.{offset-line, no_offset-line}
 use Rattle.printed.proofs.offset_lines.Invariants.{offsets}
 use Rattle.printed.proofs.offset_lines.Goals as goal
+use Rattle.printed.proofs.offset_lines.Goals.{At-loop-i}
 
 -- the offsets, the line whose turn it is, and those after it
 abbrev Turn : Type 0
-Turn = goal.At-loop-i
+Turn = At-loop-i
 
 abbrev line : Turn → List ℕ
 line t = decimal (get_or (offsets t) t.loop-i.i 0) ++ 10 ∷ []

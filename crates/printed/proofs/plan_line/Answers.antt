@@ -17,6 +17,7 @@ use Rattle.plans.specs.declared.Plan.{Plan}
 use Rattle.printed.specs.Text.{plan_line}
 use Rattle.printed.proofs.Lines.{five_items, five_sizes}
 use Rattle.printed.proofs.plan_line.Goals as goal
+use Rattle.printed.proofs.plan_line.Goals.{After-write_ended-c, After-write_ended-inbound, After-write_ended-outbound, After-write_signed-b, Start}
 
 -- an item and the space behind it, and the items that make the line
 abbrev item : ℕ → List ℕ
@@ -35,35 +36,35 @@ items p = five_items (decimal p.reference) (signed_decimal p.b) (decimal p.outbo
 abbrev size : Plan → ℕ
 size p = length (item p.reference) + length (b_item p.b) + length (item p.outbound) + length (item p.inbound) + length (last p)
 
-room : (c : goal.Start) → c.args.at + size c.args.plan ≤ length c.args.bytes.now
+room : (c : Start) → c.args.at + size c.args.plan ≤ length c.args.bytes.now
 room c =
     let p = c.args.plan in
     let sizes = five_sizes (item p.reference) (b_item p.b) (item p.outbound) (item p.inbound) (last p) in
     omega (arith, ap length (items p), c.requires)
 
 -- B, read off its bits, is B again
-b_again : (c : goal.Start) → b_item (to_z w32 (of_z w32 c.args.plan.b)) ≡ b_item c.args.plan.b
+b_again : (c : Start) → b_item (to_z w32 (of_z w32 c.args.plan.b)) ≡ b_item c.args.plan.b
 b_again c = ap b_item (to_z-of_z w32 c.args.plan.b fits)
   where
     fits : SFits w32 c.args.plan.b
     fits = search rules
 
 -- the way back from each item to the one before it
-abbrev at_outbound : goal.After-write_ended-inbound → goal.After-write_ended-outbound
+abbrev at_outbound : After-write_ended-inbound → After-write_ended-outbound
 at_outbound c = c.before.before.before.before
 
-abbrev at_b : goal.After-write_ended-outbound → goal.After-write_signed-b
+abbrev at_b : After-write_ended-outbound → After-write_signed-b
 at_b c = c.before.before.before.before
 
-abbrev at_c : goal.After-write_signed-b → goal.After-write_ended-c
+abbrev at_c : After-write_signed-b → After-write_ended-c
 at_c c = c.before.before.before.before.before
 
-abbrev entry : goal.After-write_ended-c → goal.Start
+abbrev entry : After-write_ended-c → Start
 entry c = c.before.before.before
 
 -- the outbound width, in its own place
 outbound_item :
-    (c : goal.After-write_ended-outbound)
+    (c : After-write_ended-outbound)
     → let signed = (at_b c).write_signed-b in
     Writes
     signed.result

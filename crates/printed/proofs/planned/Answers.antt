@@ -11,12 +11,13 @@ use Rattle.sheet.proofs.Held.{reds_part, distances_part, outbound_part, inbound_
 use Rattle.printed.specs.Text.{text_of, printed_of}
 use Rattle.printed.proofs.Ways.{plan-text, lent_le, lent_few}
 use Rattle.printed.proofs.planned.Goals as goal
+use Rattle.printed.proofs.planned.Goals.{After-lent-k, Start}
 
 -- once the room is known: the function's entry, and that the room is at most 32
-abbrev entry : goal.After-lent-k → goal.Start
+abbrev entry : After-lent-k → Start
 entry c = c.before.before.before.before.before
 
-most : (c : goal.After-lent-k) → c.lent-k.result ≤ max_signals
+most : (c : After-lent-k) → c.lent-k.result ≤ max_signals
 most c = lent_le (entry c).args.room c.lent-k.result c.lent-k.ensures
 
 pub slice_bounds-equal-end : goal.slice_bounds-equal-end

@@ -12,34 +12,35 @@ use Rattle.decimal.proofs.Writing.{writes_twice, writes_as}
 use Rattle.printed.specs.Text.{refused_word, refusal_line}
 use Rattle.printed.proofs.Lines.{three_items, three_sizes}
 use Rattle.printed.proofs.refusal_line.Goals as goal
+use Rattle.printed.proofs.refusal_line.Goals.{After-code_number-code, After-copy-word, After-write_ended-coded}
 
 -- the items as they are written
-abbrev code_item : goal.After-code_number-code → List ℕ
+abbrev code_item : After-code_number-code → List ℕ
 code_item c = decimal c.code_number-code.result ++ 32 ∷ []
 
-abbrev place_item : goal.After-code_number-code → List ℕ
+abbrev place_item : After-code_number-code → List ℕ
 place_item c = decimal c.args.refusal.place ++ 10 ∷ []
 
-items : (c : goal.After-code_number-code) → (refused_word ++ 32 ∷ []) ++ code_item c ++ place_item c ≡ refusal_line c.args.refusal
+items : (c : After-code_number-code) → (refused_word ++ 32 ∷ []) ++ code_item c ++ place_item c ≡ refusal_line c.args.refusal
 items c =
     let refusal = c.args.refusal in
     ap (λ (n : ℕ). (refused_word ++ 32 ∷ []) ++ (decimal n ++ 32 ∷ []) ++ place_item c) c.code_number-code.ensures
     ∙ three_items refused_word (decimal (code_number refusal.code)) (decimal refusal.place)
 
 -- there is room for them
-room : (c : goal.After-code_number-code) → 8 + length (code_item c) + length (place_item c) ≤ length c.args.bytes.now
+room : (c : After-code_number-code) → 8 + length (code_item c) + length (place_item c) ≤ length c.args.bytes.now
 room c =
     omega (arith, ap length (items c), three_sizes (refused_word ++ 32 ∷ []) (code_item c) (place_item c), c.requires)
 
-abbrev coded : goal.After-copy-word → goal.After-code_number-code
+abbrev coded : After-copy-word → After-code_number-code
 coded c = c.before.before.before
 
-abbrev at_word : goal.After-write_ended-coded → goal.After-copy-word
+abbrev at_word : After-write_ended-coded → After-copy-word
 at_word c = c.before.before.before.before
 
 -- the word, which is written from the start
 word_written :
-    (c : goal.After-copy-word)
+    (c : After-copy-word)
     → Writes 0 (refused_word ++ 32 ∷ []) (coded c).args.bytes.now c.copy-word.new.bytes c.copy-word.result
 word_written c = record { after = c.copy-word.ensures.1; next = c.copy-word.ensures.0 }
 

@@ -8,9 +8,10 @@ use Rattle.circle.specs.Over.{list_below}
 use Rattle.circle.proofs.Numbers.{fill_store, get_D_list_below}
 use Rattle.search.specs.Steps.{pair_of}
 use Rattle.search.proofs.fill.Goals as goal
+use Rattle.search.proofs.fill.Goals.{Start}
 
 -- the pair of the limit at an index
-abbrev pair_at : goal.Start → ℕ → List ℕ
+abbrev pair_at : Start → ℕ → List ℕ
 pair_at c q = pair_of c.args.cycle (get_or c.args.x.now c.args.i 0) (get_or c.args.x.now q 0) (get_or c.args.reds.now q 0)
 
 pub loop-j-init : goal.loop-j-init

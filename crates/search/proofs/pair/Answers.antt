@@ -7,14 +7,15 @@ use lib.IntN.{pos, ◌-ℤ◌}
 use Rattle.circle.proofs.Numbers.{man_lt}
 use Rattle.search.proofs.Pairs.{pair_is}
 use Rattle.search.proofs.pair.Goals as goal
+use Rattle.search.proofs.pair.Goals.{After-back-even, After-back-odd}
 
 -- each remainder lies on the cycle
-even_lt : (c : goal.After-back-even) → c.back-even.result < 2 * c.args.cycle
+even_lt : (c : After-back-even) → c.back-even.result < 2 * c.args.cycle
 even_lt c =
     let a = c.args in
     omega (arith, man_lt (2 * a.cycle) (pos a.from -ℤ pos a.to) (omega (arith, c.requires.0)), c.back-even.ensures)
 
-odd_lt : (c : goal.After-back-odd) → c.back-odd.result < 2 * c.args.cycle
+odd_lt : (c : After-back-odd) → c.back-odd.result < 2 * c.args.cycle
 odd_lt c =
     let a = c.args in
     omega (arith, man_lt (2 * a.cycle) (pos c.back-even.result -ℤ pos a.cycle) (omega (arith, c.requires.0)), c.back-odd.ensures)

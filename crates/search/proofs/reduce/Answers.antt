@@ -9,8 +9,9 @@ use Rattle.circle.proofs.Numbers.{fill_store, get_D_list_below}
 use Rattle.street.specs.Steps.{timed_by}
 use Rattle.search.specs.Steps.{anchor}
 use Rattle.search.proofs.reduce.Goals as goal
+use Rattle.search.proofs.reduce.Goals.{Start}
 
-abbrev street_of : goal.Start → Timed
+abbrev street_of : Start → Timed
 street_of c = timed_by c.args.cycle c.args.n c.args.reds.now c.args.outbound.now c.args.inbound.now
 
 pub loop-k-init : goal.loop-k-init

@@ -9,23 +9,24 @@ use Rattle.circle.proofs.Numbers.{man_lt}
 use Rattle.seconds.specs.Seconds.{second_ticks, framed, green_start, nearest_second, second_of}
 use Rattle.seconds.proofs.SecondLaws.{red_on, goes_round, stays}
 use Rattle.seconds.proofs.second.Goals as goal
+use Rattle.seconds.proofs.second.Goals.{After-back, After-back-green, Start}
 
 -- the function's entry, and how long the cycle is
-around : (c : goal.Start) → 0 < 2 * c.args.cycle
+around : (c : Start) → 0 < 2 * c.args.cycle
 around c = omega (arith, c.requires)
 
-centre_lt : (c : goal.After-back) → c.back-centre.result < 2 * c.args.cycle
+centre_lt : (c : After-back) → c.back-centre.result < 2 * c.args.cycle
 centre_lt c =
     let a = c.args in
     omega (arith, c.back-centre.ensures, man_lt (2 * a.cycle) (pos a.offset -ℤ pos a.frame) (around c.before.before))
 
-red_lt : (c : goal.After-back) → c.back.result < 2 * c.args.cycle
+red_lt : (c : After-back) → c.back.result < 2 * c.args.cycle
 red_lt c =
     let a = c.args in
     omega (arith, c.back.ensures, man_lt (2 * a.cycle) (pos 0 -ℤ pos a.red) (around c.before.before))
 
 -- what the third going back comes to
-green : (c : goal.After-back-green) → let a = c.args in c.back-green.result ≡ green_start a.cycle a.frame a.offset a.red
+green : (c : After-back-green) → let a = c.args in c.back-green.result ≡ green_start a.cycle a.frame a.offset a.red
 green c =
     let a = c.args in
     let H : ℕ = 2 * a.cycle in
@@ -34,7 +35,7 @@ green c =
     ∙ red_on H (framed a.cycle a.frame a.offset) a.red (around c.before.before.before)
 
 -- which is on the cycle
-green_lt : (c : goal.After-back-green) → c.back-green.result < 2 * c.args.cycle
+green_lt : (c : After-back-green) → c.back-green.result < 2 * c.args.cycle
 green_lt c =
     let a = c.args in
     omega (arith, green c, mod-lt (framed a.cycle a.frame a.offset + a.red) (around c.before.before.before))

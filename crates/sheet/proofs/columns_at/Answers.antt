@@ -5,8 +5,9 @@ use Rattle.sheet.specs.Steps.Numbers.{followed, number}
 use Rattle.sheet.specs.Steps.Cursors.{taken_at, in_arrays}
 use Rattle.sheet.proofs.Lines.{so_far-none, so_far_all, Turn, no_first, no_second, one_line}
 use Rattle.sheet.proofs.columns_at.Goals as goal
+use Rattle.sheet.proofs.columns_at.Goals.{In-Spaced-2, In-loop-i}
 
-turn : (c : goal.In-loop-i) →
+turn : (c : In-loop-i) →
     Turn
     c.args.bytes.now
     c.args.from
@@ -18,7 +19,7 @@ turn : (c : goal.In-loop-i) →
 turn c = record { so_far = c.loop-i.invariant; left_over = c.loop-i-test.true; few = c.requires.0 }
 
 -- the first number of the line
-first_number : (c : goal.In-Spaced-2) →
+first_number : (c : In-Spaced-2) →
     number (drop c.loop-i.at c.args.bytes.now)
     ≡ followed c.in-Spaced.x (drop c.in-Spaced.next c.args.bytes.now)
 first_number c =

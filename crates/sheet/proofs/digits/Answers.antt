@@ -8,9 +8,10 @@ use Rattle.sheet.specs.declared.Byte.TheVariants.{Digit}
 use Rattle.sheet.proofs.ByteKinds.{digit_is}
 use Rattle.sheet.proofs.Numbers.{more-past, more-space, more-line_end, more_other, more_digit, more_after_zero, more_after_eight}
 use Rattle.sheet.proofs.digits.Goals as goal
+use Rattle.sheet.proofs.digits.Goals.{In-Digit-2}
 
 -- the byte that the match looked at is a digit, of the value that it took out
-digit_there : (c : goal.In-Digit-2) →
+digit_there : (c : In-Digit-2) →
     kind_of (get_or c.args.bytes.now c.loop-at.at 0)
     ≡ Digit c.in-Digit.digit
 digit_there c = sym c.kind.ensures ∙ c.in-Digit.is

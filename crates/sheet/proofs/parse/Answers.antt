@@ -14,39 +14,40 @@ use Rattle.sheet.specs.Steps.Cursors.{taken_at, opened_at, Allowed, columns}
 use Rattle.sheet.proofs.Sections.{Took, took, took_none}
 use Rattle.sheet.proofs.Replies.{too_long, no_cycle, CycleAt, signals_fault, links_fault, bytes_left, nothing_left}
 use Rattle.sheet.proofs.parse.Goals as goal
+use Rattle.sheet.proofs.parse.Goals.{In-At-2, In-At-columns_at-2, In-Ended-2, In-Of-2, In-Of-count_at-2}
 
 -- from each step that read something back to the one before it, and from the first of them to the sheet's bytes
-abbrev the_cycle : goal.In-Of-2 → goal.In-Ended-2
+abbrev the_cycle : In-Of-2 → In-Ended-2
 the_cycle c = c.before.before.before.before
 
-abbrev the_signals : goal.In-At-2 → goal.In-Of-2
+abbrev the_signals : In-At-2 → In-Of-2
 the_signals c = c.before.before.before.before.before.before
 
-abbrev the_rows : goal.In-Of-count_at-2 → goal.In-At-2
+abbrev the_rows : In-Of-count_at-2 → In-At-2
 the_rows c = c.before.before.before.before
 
-abbrev the_links : goal.In-At-columns_at-2 → goal.In-Of-count_at-2
+abbrev the_links : In-At-columns_at-2 → In-Of-count_at-2
 the_links c = c.before.before.before.before.before.before
 
-abbrev sheet : goal.In-Ended-2 → List ℕ
+abbrev sheet : In-Ended-2 → List ℕ
 sheet c = c.args.bytes.now
 
 -- after the first section
-cycle_at : (c : goal.In-Ended-2) → CycleAt (sheet c) c.in-Ended.cycle c.in-Ended.at
+cycle_at : (c : In-Ended-2) → CycleAt (sheet c) c.in-Ended.cycle c.in-Ended.at
 cycle_at c =
     record { short = c.if-bytes-gt-MAX_BYTES.false; first = sym c.cycle_at.ensures ∙ ap (taken_at (sheet c)) c.in-Ended.is }
 
 -- after the signals' count
-signals_open : (c : goal.In-Of-2) →
+signals_open : (c : In-Of-2) →
     section min_signals max_signals (drop (the_cycle c).in-Ended.at (sheet (the_cycle c)))
     ≡ pairs c.in-Of.signals (drop c.in-Of.first (sheet (the_cycle c)))
 signals_open c = sym c.count_at.ensures.0 ∙ ap (opened_at (sheet (the_cycle c))) c.in-Of.is
 
-signals_allowed : (c : goal.In-Of-2) → (min_signals ≤ c.in-Of.signals) × (c.in-Of.signals ≤ max_signals)
+signals_allowed : (c : In-Of-2) → (min_signals ≤ c.in-Of.signals) × (c.in-Of.signals ≤ max_signals)
 signals_allowed c = subst (Allowed min_signals max_signals) c.in-Of.is c.count_at.ensures.1
 
 -- after the signals' lines
-rows : (c : goal.In-At-2) →
+rows : (c : In-At-2) →
     Took
     (sheet (the_cycle (the_signals c)))
     c.columns_at.new.left
@@ -63,7 +64,7 @@ rows c =
     (sym (ap (λ (t : Stand). columns s t l.0 l.1.0) c.in-At.is) ∙ d.ensures)
 
 -- after the links' count
-links_open : (c : goal.In-Of-count_at-2) →
+links_open : (c : In-Of-count_at-2) →
     section
     ((the_signals (the_rows c)).in-Of.signals - 1)
     ((the_signals (the_rows c)).in-Of.signals - 1)
@@ -74,7 +75,7 @@ links_open c =
     ∙ ap (opened_at (sheet (the_cycle (the_signals (the_rows c))))) c.in-Of-count_at.is
 
 -- after the links' lines
-speeds : (c : goal.In-At-columns_at-2) →
+speeds : (c : In-At-columns_at-2) →
     Took
     (sheet (the_cycle (the_signals (the_rows (the_links c)))))
     c.columns_at-in-Of-count_at.new.left

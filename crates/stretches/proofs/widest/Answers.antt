@@ -9,12 +9,13 @@ use Rattle.stretches.specs.Stretches.{band_of}
 use Rattle.stretches.specs.Steps.{Fitting, seen_by}
 use Rattle.stretches.proofs.SearchLaws.{BestBand, none_seen, more-seen, passed_seen, best_seen}
 use Rattle.stretches.proofs.widest.Goals as goal
+use Rattle.stretches.proofs.widest.Goals.{After-bounded-count, Start}
 
 -- the entry's reds, and that they fit the count
-abbrev red : goal.Start → ℕ → ℕ
+abbrev red : Start → ℕ → ℕ
 red c j = get_or c.args.reds.now j 0
 
-fits : (c : goal.After-bounded-count) → Fitting c.args.h c.bounded-count.result (red c.before) c.args.ends.now
+fits : (c : After-bounded-count) → Fitting c.args.h c.bounded-count.result (red c.before) c.args.ends.now
 fits c = subst (λ (k : ℕ). Fitting c.args.h k (red c.before) c.args.ends.now) (sym c.bounded-count.ensures) c.requires.2
 
 pub longest-from_zero-requires : goal.longest-from_zero-requires

@@ -14,14 +14,15 @@ use Rattle.survey.specs.Typing.{thousandths, in_rows}
 use Rattle.survey.specs.Steps.{outbound_speed, inbound_speed}
 use Rattle.survey.proofs.RowLaws.{fault_at_lem, fault_nowhere, not_both, Good_row, reading_small, first_good, first_bad, following_good, following_bad}
 use Rattle.survey.proofs.fill.Goals as goal
+use Rattle.survey.proofs.fill.Goals.{In-Good, In-Good-judge}
 
 -- the first row, and each that follows, as they were judged
-started : (c : goal.In-Good) → let s = c.start-1.given.0 in Good_row (in_rows c.args.rows) 0 s.0 s.1.0 s.1.1.0
+started : (c : In-Good) → let s = c.start-1.given.0 in Good_row (in_rows c.args.rows) 0 s.0 s.1.0 s.1.1.0
 started c =
     let s = c.start-1.given in
     first_good (in_rows c.args.rows) s.0.0 s.0.1.0 s.0.1.1.0 (sym c.first.ensures ∙ s.1)
 
-followed : (c : goal.In-Good-judge) →
+followed : (c : In-Good-judge) →
     let s = c.distance-1.given.0 in
     Good_row (in_rows c.args.rows) (c.loop-link.link + 1) s.0 s.1.0 s.1.1.0
 followed c =

@@ -4,8 +4,9 @@ use native.Mathlib.Omega.{arith}
 use Rattle.street.specs.Limits.{max_cycle, max_volume, max_headway}
 use Rattle.traffic.proofs.VolumeLaws.{product_small}
 use Rattle.traffic.proofs.platoon.Goals as goal
+use Rattle.traffic.proofs.platoon.Goals.{Start}
 
-small : (c : goal.Start) → (c.args.volume * c.args.cycle ≤ max_volume * max_cycle) × (c.args.volume * c.args.cycle * c.args.headway ≤ max_volume * max_cycle * max_headway)
+small : (c : Start) → (c.args.volume * c.args.cycle ≤ max_volume * max_cycle) × (c.args.volume * c.args.cycle * c.args.headway ≤ max_volume * max_cycle * max_headway)
 small c = product_small c.args.cycle c.args.headway c.args.volume c.requires.0 c.requires.1 c.requires.2
 
 pub overflow_mul-product : goal.overflow_mul-product

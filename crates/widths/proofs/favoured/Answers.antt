@@ -6,9 +6,10 @@ use Rattle.circle.specs.Moved.{platoon_width}
 use Rattle.street.specs.Steps.{timed_street}
 use Rattle.widths.proofs.WidthLaws.{favours_neither, favours_outbound, favours_inbound}
 use Rattle.widths.proofs.favoured.Goals as goal
+use Rattle.widths.proofs.favoured.Goals.{After-share-width}
 
 -- the width that was worked out is that of the larger length, whichever this is
-width_of : (c : goal.After-share-width) (length : ℕ) → let a = c.args in max a.outbound a.inbound ≡ length → c.share-width.result ≡ platoon_width (timed_street a.s) length (a.outbound + a.inbound)
+width_of : (c : After-share-width) (length : ℕ) → let a = c.args in max a.outbound a.inbound ≡ length → c.share-width.result ≡ platoon_width (timed_street a.s) length (a.outbound + a.inbound)
 width_of c length is =
     let a = c.args in
     c.share-width.ensures ∙ ap (λ (x : ℕ). platoon_width (timed_street a.s) x (a.outbound + a.inbound)) (c.larger-longer.ensures ∙ is)

@@ -8,15 +8,16 @@ use Rattle.street.specs.Steps.{timed_street}
 use Rattle.search.proofs.Leading.{fit_sound}
 use Rattle.widths.proofs.WidthLaws.{raised_is, check_is}
 use Rattle.widths.proofs.in_range.Goals as goal
+use Rattle.widths.proofs.in_range.Goals.{After-widest-most}
 
 -- the street once g is out, and g itself
-abbrev street_of : goal.After-widest-most → Timed
+abbrev street_of : After-widest-most → Timed
 street_of c = timed_street c.args.s
 
-fit : (c : goal.After-widest-most) → Fit (street_of c)
+fit : (c : After-widest-most) → Fit (street_of c)
 fit c = fit_sound (street_of c) c.requires.sound
 
-most_is : (c : goal.After-widest-most) → c.widest-most.result ≡ green (street_of c)
+most_is : (c : After-widest-most) → c.widest-most.result ≡ green (street_of c)
 most_is c = green_is (street_of c) (fit c) c.widest-most.result c.widest-most.ensures
 
 pub returns-then-most-width : goal.returns-then-most-width

@@ -5,9 +5,10 @@ use Rattle.traffic.proofs.VolumeLaws.{Judged, judged}
 use Rattle.widths.specs.Checks.{platoon_check}
 use Rattle.widths.proofs.WidthLaws.{traffic_is}
 use Rattle.widths.proofs.light_enough.Goals as goal
+use Rattle.widths.proofs.light_enough.Goals.{In_default}
 
 -- once the volumes passed
-passed : (c : goal.In_default) → Judged c.args.outbound c.args.inbound c.args.headway
+passed : (c : In_default) → Judged c.args.outbound c.args.inbound c.args.headway
 passed c = judged _ _ _ (sym c.check-judged.ensures ∙ c.in_default.is)
 
 pub returns-in-Refused : goal.returns-in-Refused

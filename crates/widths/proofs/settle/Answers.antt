@@ -10,9 +10,10 @@ use Rattle.widths.specs.Moved.{platoon_shift, shift_of}
 use Rattle.widths.specs.Checks.{request_check}
 use Rattle.widths.proofs.WidthLaws.{platoons_short, traffic_passed}
 use Rattle.widths.proofs.settle.Goals as goal
+use Rattle.widths.proofs.settle.Goals.{In-Volumes}
 
 -- volumes that passed their check
-light : (c : goal.In-Volumes) → let a = c.request-in-Volumes-1.given.0 in let C = c.args.s.cycle in Judged a.0 a.1.0 a.1.1.0 × (platoon_of C a.1.1.0 a.0 ≤ max_platoon) × (platoon_of C a.1.1.0 a.1.0 ≤ max_platoon)
+light : (c : In-Volumes) → let a = c.request-in-Volumes-1.given.0 in let C = c.args.s.cycle in Judged a.0 a.1.0 a.1.1.0 × (platoon_of C a.1.1.0 a.0 ≤ max_platoon) × (platoon_of C a.1.1.0 a.1.0 ≤ max_platoon)
 light c =
     let told = c.request-in-Volumes-1.given in
     traffic_passed c.args.s.cycle told.0.0 told.0.1.0 told.0.1.1.0

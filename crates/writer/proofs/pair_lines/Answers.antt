@@ -7,10 +7,11 @@ use Rattle.decimal.proofs.Writing.{room_first, room_left, writes_twice, nothing_
 use Rattle.sheet.specs.Form.{pair_lines}
 use Rattle.writer.proofs.Lines.{left-item, right_item, pair_line_lem, no_pair-line}
 use Rattle.writer.proofs.pair_lines.Goals as goal
+use Rattle.writer.proofs.pair_lines.Goals.{At-loop-i}
 
 -- the columns, the two items of the line whose turn it is, and the lines after it
 abbrev Turn : Type 0
-Turn = goal.At-loop-i
+Turn = At-loop-i
 
 abbrev lefts : Turn → List ℕ
 lefts t = t.args.left.now

@@ -14,12 +14,13 @@ use Rattle.writer.specs.Steps.{section_text}
 use Rattle.writer.proofs.Lines.{text_sections}
 use Rattle.writer.proofs.Sizes.{sheet_size}
 use Rattle.writer.proofs.sections.Goals as goal
+use Rattle.writer.proofs.sections.Goals.{After-section-links, After-write_ended-first, After-write_ended-signals, Start}
 
 -- the street, what its checks tell, and the parts of its text, each with those before it
-abbrev street : goal.Start → Lists
+abbrev street : Start → Lists
 street c = typed c.args.cycle c.args.reds.now c.args.distances.now c.args.outbound.now c.args.inbound.now
 
-limits : (c : goal.Start) → InLimits (street c) (signals (street c))
+limits : (c : Start) → InLimits (street c) (signals (street c))
 limits c = in_limits (street c) (signals (street c)) c.requires.0
 
 abbrev first : Lists → List ℕ
@@ -31,42 +32,42 @@ second l = first l ++ section_text l.distances l.reds
 abbrev third : Lists → List ℕ
 third l = second l ++ section_text l.outbound l.inbound
 
-parts : (c : goal.Start) → third (street c) ≡ text (street c)
+parts : (c : Start) → third (street c) ≡ text (street c)
 parts c = text_sections (street c) (limits c).counts.distances (limits c).counts.outbound
 
 -- there is room for all of them, and so for those before each
-room_third : (c : goal.Start) → 0 + length (third (street c)) ≤ length c.args.bytes.now
+room_third : (c : Start) → 0 + length (third (street c)) ≤ length c.args.bytes.now
 room_third c = omega (arith, ap length (parts c), sheet_size (street c) (signals (street c)) c.requires.0, c.requires.1)
 
-room_second : (c : goal.Start) → 0 + length (second (street c)) ≤ length c.args.bytes.now
+room_second : (c : Start) → 0 + length (second (street c)) ≤ length c.args.bytes.now
 room_second c =
     let l = street c in
     room_first 0 (length c.args.bytes.now) (second l) (section_text l.outbound l.inbound) (room_third c)
 
-room_both : (c : goal.Start) → 0 + length (first (street c)) ≤ length c.args.bytes.now
+room_both : (c : Start) → 0 + length (first (street c)) ≤ length c.args.bytes.now
 room_both c =
     let l = street c in
     room_first 0 (length c.args.bytes.now) (first l) (section_text l.distances l.reds) (room_second c)
 
 -- the way back from each part to the one before it
-abbrev at_cycle : goal.After-section-links → goal.After-write_ended-signals
+abbrev at_cycle : After-section-links → After-write_ended-signals
 at_cycle c = c.before.before.before.before
 
-abbrev at_one : goal.After-write_ended-signals → goal.After-write_ended-first
+abbrev at_one : After-write_ended-signals → After-write_ended-first
 at_one c = c.before.before.before.before
 
-abbrev entry : goal.After-write_ended-first → goal.Start
+abbrev entry : After-write_ended-first → Start
 entry c = c.before.before.before.before.before.before.before
 
 -- what is written by then
 wrote_first :
-    (c : goal.After-write_ended-signals)
+    (c : After-write_ended-signals)
     → let start = entry (at_one c) in
     Writes 0 (first (street start)) start.args.bytes.now c.write_ended-signals.new.bytes c.write_ended-signals.result
 wrote_first c = writes_twice (omega arith) (at_one c).write_ended-first.ensures c.write_ended-signals.ensures
 
 wrote_second :
-    (c : goal.After-section-links)
+    (c : After-section-links)
     → let start = entry (at_one (at_cycle c)) in
     Writes 0 (second (street start)) start.args.bytes.now c.section-links.new.bytes c.section-links.result
 wrote_second c = writes_twice (omega arith) (wrote_first (at_cycle c)) c.section-links.ensures

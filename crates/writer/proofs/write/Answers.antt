@@ -10,22 +10,23 @@ use Rattle.street.specs.declared.Verdict.TheVariants.{Passed}
 use Rattle.writer.proofs.Sizes.{sheet_size}
 use Rattle.writer.proofs.Replies.{street-refused, sheet_handed, text-within, text_made}
 use Rattle.writer.proofs.write.Goals as goal
+use Rattle.writer.proofs.write.Goals.{After-sections-count, After-sheet-1, Start}
 
-abbrev street : goal.Start → Lists
+abbrev street : Start → Lists
 street c = typed c.args.cycle c.args.reds.now c.args.distances.now c.args.outbound.now c.args.inbound.now
 
 -- once the buffer is there, every check has passed
-abbrev entry : goal.After-sheet-1 → goal.Start
+abbrev entry : After-sheet-1 → Start
 entry c = c.before.before.before.before.before.before.before.before.before
 
-passed : (c : goal.After-sheet-1) → plan_checks (street (entry c)) (signals (street (entry c))) ≡ Passed
+passed : (c : After-sheet-1) → plan_checks (street (entry c)) (signals (street (entry c))) ≡ Passed
 passed c = sym c.judged-verdict.ensures ∙ c.in-Passed.is
 
 -- once the sections are made
-abbrev lent : goal.After-sections-count → goal.After-sheet-1
+abbrev lent : After-sections-count → After-sheet-1
 lent c = c.before
 
-within : (c : goal.After-sections-count) → c.sections-count.result ≤ length c.sections-count.new.bytes
+within : (c : After-sections-count) → c.sections-count.result ≤ length c.sections-count.new.bytes
 within c =
     let l = street (entry (lent c)) in
     text-within (sheet_size l (signals l) (passed (lent c))) c.sections-count.ensures

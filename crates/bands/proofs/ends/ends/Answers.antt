@@ -11,8 +11,9 @@ use Rattle.circle.proofs.Numbers.{fill_store, get_D_list_below}
 use Rattle.street.specs.Steps.{timed_by}
 use Rattle.bands.specs.Steps.{end_of}
 use Rattle.bands.proofs.ends.ends.Goals as goal
+use Rattle.bands.proofs.ends.ends.Goals.{Start}
 
-abbrev street_of : goal.Start → Timed
+abbrev street_of : Start → Timed
 street_of c = timed_by c.args.cycle c.args.n c.args.reds.now c.args.outbound.now c.args.inbound.now
 
 pub loop-j-init : goal.loop-j-init

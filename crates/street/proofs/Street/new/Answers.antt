@@ -15,6 +15,7 @@ use Rattle.street.specs.declared.Verdict.{Verdict}
 use Rattle.street.specs.declared.Verdict.TheVariants.{Passed, Refused}
 use Rattle.street.proofs.Passed.{InLimits, in_limits}
 use Rattle.street.proofs.Street.new.Goals as goal
+use Rattle.street.proofs.Street.new.Goals.{After-judged-verdict, In-Passed, Start}
 
 abbrev answer : Verdict → Street → Built
 answer v s = record { verdict = v; street = s }
@@ -33,14 +34,14 @@ module _ (l : Lists) (room : ℕ) (v : Verdict) (is : v ≡ plan_checks l room) 
   empty f told = simp (told, sym is ∙ told)
 
 -- the entry, the lists that are judged there, and what they are known to be where the verdict passed
-abbrev entry : goal.After-judged-verdict → goal.Start
+abbrev entry : After-judged-verdict → Start
 entry c = c.before.before.before.before.before
 
-abbrev lists : goal.After-judged-verdict → Lists
+abbrev lists : After-judged-verdict → Lists
 lists c =
     typed (entry c).args.cycle (entry c).args.reds.now (entry c).args.distances.now (entry c).args.outbound.now (entry c).args.inbound.now
 
-ready : (c : goal.In-Passed) → InLimits (lists c.before.before) (entry c.before.before).args.lent
+ready : (c : In-Passed) → InLimits (lists c.before.before) (entry c.before.before).args.lent
 ready c =
     let at = c.before.before in passed (lists at) (entry at).args.lent _ at.judged-verdict.ensures c.in-Passed.is
 

@@ -3,8 +3,9 @@
 use Rattle.street.specs.Lists.{Lists, typed}
 use Rattle.street.proofs.Passed.{plan-refused, plan-numbers, opening_tells}
 use Rattle.street.proofs.checks.judged.Goals as goal
+use Rattle.street.proofs.checks.judged.Goals.{Start}
 
-abbrev lists : goal.Start → Lists
+abbrev lists : Start → Lists
 lists c = typed c.args.ticks c.args.reds.now c.args.distances.now c.args.outbound.now c.args.inbound.now
 
 pub returns-in-Refused : goal.returns-in-Refused
