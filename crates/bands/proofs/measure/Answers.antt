@@ -6,21 +6,17 @@ use Rattle.street.specs.declared.Verdict.TheVariants.{Passed}
 use Rattle.street.proofs.Sound.{verdict_checks, passed_street, passed_sound}
 use Rattle.bands.proofs.MeasureLaws.{measure_short, measure_refused, measure_built}
 use Rattle.bands.proofs.measure.Goals as goal
-use Rattle.bands.proofs.measure.Goals.{Start}
-
-abbrev lists : Start → Lists
-lists c = typed c.args.cycle c.args.reds.now c.args.distances.now c.args.outbound.now c.args.inbound.now
 
 pub returns-then-offsets-reds : goal.returns-then-offsets-reds
 returns-then-offsets-reds c =
-    let c0 = c.before.before.before.before.before.before in
-    measure_short (lists c0) c0.args.offsets.now c.if-offsets-reds.true
+    let lists : Lists = typed c.args.cycle c.args.reds.now c.args.distances.now c.args.outbound.now c.args.inbound.now in
+    measure_short lists c.args.offsets.now c.if-offsets-reds.true
 
 pub on_street-requires : goal.on_street-requires
 on_street-requires c =
-    let c0 = c.before.before.before.before.before.before.before.before.before.before in
-    let l = lists c0 in
-    let offsets = c0.args.offsets.now in
+    let lists : Lists = typed c.args.cycle c.args.reds.now c.args.distances.now c.args.outbound.now c.args.inbound.now in
+    let l = lists in
+    let offsets = c.args.offsets.now in
     let x = c.new-built.result in
     let passed = verdict_checks l (signals l) x Passed c.new-built.ensures c.in-Passed.is in
     let is = passed_street l (signals l) x c.new-built.ensures passed in
@@ -28,16 +24,16 @@ on_street-requires c =
 
 pub returns-in-Refused : goal.returns-in-Refused
 returns-in-Refused c =
-    let c0 = c.before.before.before.before.before.before.before.before.before.before in
-    let l = lists c0 in
-    let offsets = c0.args.offsets.now in
+    let lists : Lists = typed c.args.cycle c.args.reds.now c.args.distances.now c.args.outbound.now c.args.inbound.now in
+    let l = lists in
+    let offsets = c.args.offsets.now in
     measure_refused l offsets _ c.if-offsets-reds.false (verdict_checks l (signals l) c.new-built.result _ c.new-built.ensures c.in-Refused.is)
 
 pub returns-in-Passed : goal.returns-in-Passed
 returns-in-Passed c =
-    let c0 = c.before.before.before.before.before.before.before.before.before.before.before in
-    let l = lists c0 in
-    let offsets = c0.args.offsets.now in
+    let lists : Lists = typed c.args.cycle c.args.reds.now c.args.distances.now c.args.outbound.now c.args.inbound.now in
+    let l = lists in
+    let offsets = c.args.offsets.now in
     let x = c.new-built.result in
     let passed = verdict_checks l (signals l) x Passed c.new-built.ensures c.in-Passed.is in
     let is = passed_street l (signals l) x c.new-built.ensures passed in

@@ -10,23 +10,11 @@ use Rattle.decimal.specs.Decimal.{decimal, signed_decimal}
 use Rattle.decimal.proofs.Signs.{short, minused, short_fits, minus_fits, minus_casts, minus-text, plus_casts, plus_text}
 use Rattle.decimal.proofs.Writing.{writes_byte, writes_twice, writes_as}
 use Rattle.decimal.proofs.write_signed.Goals as goal
-use Rattle.decimal.proofs.write_signed.Goals.{Else-z-lt0, Then-z-lt0}
-
--- the text to be written, with the sign before it and without it
-sign_text :
-    (c : Then-z-lt0)
-    → 45 ∷ (decimal (nat_abs (minused c.args.z c.ranges.z)) ++ c.args.end ∷ []) ≡ signed_decimal c.args.z ++ c.args.end ∷ []
-sign_text c =
-    ap (λ (t : List ℕ). t ++ c.args.end ∷ []) (minus-text c.args.z c.ranges.z c.if-z-lt0.true)
-
-plain_text :
-    (c : Else-z-lt0)
-    → decimal (nat_abs (short c.args.z c.ranges.z)) ++ c.args.end ∷ [] ≡ signed_decimal c.args.z ++ c.args.end ∷ []
-plain_text c =
-    ap (λ (t : List ℕ). t ++ c.args.end ∷ []) (plus_text c.args.z c.ranges.z c.if-z-lt0.false)
 
 pub bounds-bytes-at : goal.bounds-bytes-at
-bounds-bytes-at c = omega (arith, ap length (sign_text c))
+bounds-bytes-at c =
+    let sign_text : 45 ∷ (decimal (nat_abs (minused c.args.z c.ranges.z)) ++ c.args.end ∷ []) ≡ signed_decimal c.args.z ++ c.args.end ∷ [] = ap (λ (t : List ℕ). t ++ c.args.end ∷ []) (minus-text c.args.z c.ranges.z c.if-z-lt0.true) in
+    omega (arith, ap length sign_text)
 
 pub overflow_cast-wide : goal.overflow_cast-wide
 overflow_cast-wide c = short_fits c.args.z c.ranges.z
@@ -38,24 +26,30 @@ pub overflow_cast-wide-then-z-lt0 : goal.overflow_cast-wide-then-z-lt0
 overflow_cast-wide-then-z-lt0 c = minus_casts c.args.z c.ranges.z c.if-z-lt0.true
 
 pub write_ended-requires : goal.write_ended-requires
-write_ended-requires c = simp length-set (omega (arith, ap length (sign_text c.before)))
+write_ended-requires c =
+    let sign_text : 45 ∷ (decimal (nat_abs (minused c.args.z c.ranges.z)) ++ c.args.end ∷ []) ≡ signed_decimal c.args.z ++ c.args.end ∷ [] = ap (λ (t : List ℕ). t ++ c.args.end ∷ []) (minus-text c.args.z c.ranges.z c.if-z-lt0.true) in
+    simp length-set (omega (arith, ap length sign_text))
 
 pub overflow_cast-z : goal.overflow_cast-z
 overflow_cast-z c = plus_casts c.args.z c.ranges.z c.if-z-lt0.false
 
 pub write_ended-requires-else-z-lt0 : goal.write_ended-requires-else-z-lt0
-write_ended-requires-else-z-lt0 c = omega (arith, ap length (plain_text c.before))
+write_ended-requires-else-z-lt0 c =
+    let plain_text : decimal (nat_abs (short c.args.z c.ranges.z)) ++ c.args.end ∷ [] ≡ signed_decimal c.args.z ++ c.args.end ∷ [] = ap (λ (t : List ℕ). t ++ c.args.end ∷ []) (plus_text c.args.z c.ranges.z c.if-z-lt0.false) in
+    omega (arith, ap length plain_text)
 
 pub shape_of-bytes-then-z-lt0 : goal.shape_of-bytes-then-z-lt0
-shape_of-bytes-then-z-lt0 c = simp length-set at c.write_ended.auto.0
+shape_of-bytes-then-z-lt0 c = simp length-set at c.write_ended.auto.bytes
 
 pub returns-then-z-lt0 : goal.returns-then-z-lt0
 returns-then-z-lt0 c =
-    let then = c.before.before.before.before in
-    let a = then.args in
-    let long = ap length (sign_text then) in
-    writes_as (sign_text then)
+    let sign_text : 45 ∷ (decimal (nat_abs (minused c.args.z c.ranges.z)) ++ c.args.end ∷ []) ≡ signed_decimal c.args.z ++ c.args.end ∷ [] = ap (λ (t : List ℕ). t ++ c.args.end ∷ []) (minus-text c.args.z c.ranges.z c.if-z-lt0.true) in
+    let a = c.args in
+    let long = ap length sign_text in
+    writes_as sign_text
     (writes_twice (omega arith) (writes_byte a.at 45 a.bytes.now (omega arith)) c.write_ended.ensures)
 
 pub returns-else-z-lt0 : goal.returns-else-z-lt0
-returns-else-z-lt0 c = writes_as (plain_text c.before.before.before.before) c.write_ended-else-z-lt0.ensures
+returns-else-z-lt0 c =
+    let plain_text : decimal (nat_abs (short c.args.z c.ranges.z)) ++ c.args.end ∷ [] ≡ signed_decimal c.args.z ++ c.args.end ∷ [] = ap (λ (t : List ℕ). t ++ c.args.end ∷ []) (plus_text c.args.z c.ranges.z c.if-z-lt0.false) in
+    writes_as plain_text c.write_ended-else-z-lt0.ensures

@@ -7,16 +7,12 @@ use Rattle.flat.specs.Flat.{flat_plan}
 use Rattle.flat.proofs.Laws.{plan_fields_lem, plan-refused}
 use borrow.Author.Rules.{rules}
 use Rattle.flat.proofs.plan.Goals as goal
-use Rattle.flat.proofs.plan.Goals.{After-struct_told-1}
-
--- B fits its type
-fits : (c : After-struct_told-1) → SFits w32 c.in-Planned.p.b
-fits c = search rules
 
 pub returns-in-Planned : goal.returns-in-Planned
 returns-in-Planned c =
+    let fits : SFits w32 c.in-Planned.p.b = search rules in
     let p = c.in-Planned.p in
-    plan_fields_lem p _ (to_z-of_z w32 p.b (fits c)) ∙ ap flat_plan (sym c.in-Planned.is)
+    plan_fields_lem p _ (to_z-of_z w32 p.b fits) ∙ ap flat_plan (sym c.in-Planned.is)
 
 pub returns-in-Refused : goal.returns-in-Refused
 returns-in-Refused c =

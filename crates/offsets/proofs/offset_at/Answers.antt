@@ -7,31 +7,41 @@ use Rattle.street.specs.Steps.{max_halves}
 use Rattle.widths.specs.Steps.{shift_width}
 use Rattle.offsets.proofs.OffsetLaws.{choice_small, lowering_small, offset_parts}
 use Rattle.offsets.proofs.offset_at.Goals as goal
-use Rattle.offsets.proofs.offset_at.Goals.{After-better_phase-better, After-lowered_by-down}
-
--- the phase and the u that were found, and the lowering, are small
-near : (c : After-better_phase-better) → (c.better_phase-better.result.phase ≤ max_cycle) × (c.better_phase-better.result.u ≤ max_halves)
-near c =
-    let a = c.args in
-    let small = choice_small a.cycle a.from a.to a.red c.requires.0 c.requires.4 in
-    omega (arith, ap (λ x. x.phase) c.better_phase-better.ensures, ap (λ x. x.u) c.better_phase-better.ensures, c.requires.1)
-
-low : (c : After-lowered_by-down) → c.lowered_by-down.result ≤ shift_width c.args.shift + c.better_phase-better.result.u + 2 * c.args.red
-low c =
-    let a = c.args in
-    omega (arith, c.lowered_by-down.ensures, lowering_small a.raised a.red c.better_phase-better.result.u a.shift)
 
 pub lowered_by-down-requires : goal.lowered_by-down-requires
-lowered_by-down-requires c = omega (arith, near c)
+lowered_by-down-requires c =
+    let near : (c.better_phase-better.result.phase ≤ max_cycle) × (c.better_phase-better.result.u ≤ max_halves) =
+    let a = c.args in
+    let small = choice_small a.cycle a.from a.to a.red c.requires.0 c.requires.4 in
+    omega (arith, ap (λ x. x.phase) c.better_phase-better.ensures, ap (λ x. x.u) c.better_phase-better.ensures, c.requires.1) in
+    omega (arith, near)
 
 pub overflow_add-ahead : goal.overflow_add-ahead
-overflow_add-ahead c = omega (arith, near c.before.before)
+overflow_add-ahead c =
+    let near : (c.better_phase-better.result.phase ≤ max_cycle) × (c.better_phase-better.result.u ≤ max_halves) =
+    let a = c.args in
+    let small = choice_small a.cycle a.from a.to a.red c.requires.0 c.requires.4 in
+    omega (arith, ap (λ x. x.phase) c.better_phase-better.ensures, ap (λ x. x.u) c.better_phase-better.ensures, c.requires.1) in
+    omega (arith, near)
 
 pub overflow_add-behind : goal.overflow_add-behind
-overflow_add-behind c = omega (arith, low c.before, near c.before.before)
+overflow_add-behind c =
+    let near : (c.better_phase-better.result.phase ≤ max_cycle) × (c.better_phase-better.result.u ≤ max_halves) =
+    let a = c.args in
+    let small = choice_small a.cycle a.from a.to a.red c.requires.0 c.requires.4 in
+    omega (arith, ap (λ x. x.phase) c.better_phase-better.ensures, ap (λ x. x.u) c.better_phase-better.ensures, c.requires.1) in
+    let low : c.lowered_by-down.result ≤ shift_width c.args.shift + c.better_phase-better.result.u + 2 * c.args.red =
+    let a = c.args in
+    omega (arith, c.lowered_by-down.ensures, lowering_small a.raised a.red c.better_phase-better.result.u a.shift) in
+    omega (arith, low, near)
 
 pub remainder-requires : goal.remainder-requires
-remainder-requires c = omega (arith, near c.before.before)
+remainder-requires c =
+    let near : (c.better_phase-better.result.phase ≤ max_cycle) × (c.better_phase-better.result.u ≤ max_halves) =
+    let a = c.args in
+    let small = choice_small a.cycle a.from a.to a.red c.requires.0 c.requires.4 in
+    omega (arith, ap (λ x. x.phase) c.better_phase-better.ensures, ap (λ x. x.u) c.better_phase-better.ensures, c.requires.1) in
+    omega (arith, near)
 
 pub returns : goal.returns
 returns c =

@@ -12,51 +12,65 @@ use Rattle.street.specs.Steps.{timed_street}
 use Rattle.offsets.proofs.OffsetLaws.{moved_lt, red_end_man, red_start_man}
 use Rattle.plans.proofs.SignedLaws.{reread}
 use Rattle.plans.proofs.numbers.Goals as goal
-use Rattle.plans.proofs.numbers.Goals.{After-signed, Start}
 
-reference_in : (c : Start) → c.args.c < c.args.s.road.signals
-reference_in c = omega (arith, c.requires.1, reference_lt (timed_street c.args.s) c.requires.0.sound.some)
+pub offset_bounds-s-c : goal.offset_bounds-s-c
+offset_bounds-s-c c =
+    let reference_in : c.args.c < c.args.s.road.signals = omega (arith, c.requires.1, reference_lt (timed_street c.args.s) c.requires.0.sound.some) in
+    omega (arith, reference_in, c.requires.0.sound.few)
 
--- the reference's own offset lies on the cycle, and its red is shorter
-on_cycle : (c : Start) → (c.args.f < 2 * c.args.s.cycle) × (get_or c.args.s.reds c.args.c 0 < c.args.s.cycle) × (1 ≤ c.args.s.cycle) × (c.args.s.cycle ≤ max_cycle)
-on_cycle c =
+pub bounds-s-c : goal.bounds-s-c
+bounds-s-c c =
+    let reference_in : c.args.c < c.args.s.road.signals = omega (arith, c.requires.1, reference_lt (timed_street c.args.s) c.requires.0.sound.some) in
+    omega (arith, reference_in, c.requires.0.sound.few)
+
+pub overflow_add-result : goal.overflow_add-result
+overflow_add-result c =
+    let reference_in : c.args.c < c.args.s.road.signals = omega (arith, c.requires.1, reference_lt (timed_street c.args.s) c.requires.0.sound.some) in
+    omega (arith, reference_in, c.requires.0.sound.few)
+
+pub overflow_cast-result : goal.overflow_cast-result
+overflow_cast-result c =
+    let reference_in : c.args.c < c.args.s.road.signals = omega (arith, c.requires.1, reference_lt (timed_street c.args.s) c.requires.0.sound.some) in
+    omega (arith, reference_in, c.requires.0.sound.few)
+
+pub overflow_add-f : goal.overflow_add-f
+overflow_add-f c =
+    let reference_in : c.args.c < c.args.s.road.signals = omega (arith, c.requires.1, reference_lt (timed_street c.args.s) c.requires.0.sound.some) in
+    let on_cycle : (c.args.f < 2 * c.args.s.cycle) × (get_or c.args.s.reds c.args.c 0 < c.args.s.cycle) × (1 ≤ c.args.s.cycle) × (c.args.s.cycle ≤ max_cycle) =
     let s = timed_street c.args.s in
     let ok = c.requires.0.sound in
     let turns : 0 < s.cycle = omega (arith, ok.shortest) in
-    omega (arith, c.requires.3, moved_lt s c.args.shift (reference s) turns, ok.goes c.args.c (reference_in c), ok.longest)
+    omega (arith, c.requires.3, moved_lt s c.args.shift (reference s) turns, ok.goes c.args.c reference_in, ok.longest) in
+    omega (arith, on_cycle)
 
--- the signed field holds B
-B_read : (c : After-signed) → to_z w32 (of_z w32 c.signed.result) ≡ B (timed_street c.args.s)
-B_read c =
+pub remainder-requires : goal.remainder-requires
+remainder-requires c =
+    let reference_in : c.args.c < c.args.s.road.signals = omega (arith, c.requires.1, reference_lt (timed_street c.args.s) c.requires.0.sound.some) in
+    let on_cycle : (c.args.f < 2 * c.args.s.cycle) × (get_or c.args.s.reds c.args.c 0 < c.args.s.cycle) × (1 ≤ c.args.s.cycle) × (c.args.s.cycle ≤ max_cycle) =
+    let s = timed_street c.args.s in
+    let ok = c.requires.0.sound in
+    let turns : 0 < s.cycle = omega (arith, ok.shortest) in
+    omega (arith, c.requires.3, moved_lt s c.args.shift (reference s) turns, ok.goes c.args.c reference_in, ok.longest) in
+    omega (arith, on_cycle)
+
+pub remainder-requires-2 : goal.remainder-requires-2
+remainder-requires-2 c =
+    let reference_in : c.args.c < c.args.s.road.signals = omega (arith, c.requires.1, reference_lt (timed_street c.args.s) c.requires.0.sound.some) in
+    let on_cycle : (c.args.f < 2 * c.args.s.cycle) × (get_or c.args.s.reds c.args.c 0 < c.args.s.cycle) × (1 ≤ c.args.s.cycle) × (c.args.s.cycle ≤ max_cycle) =
+    let s = timed_street c.args.s in
+    let ok = c.requires.0.sound in
+    let turns : 0 < s.cycle = omega (arith, ok.shortest) in
+    omega (arith, c.requires.3, moved_lt s c.args.shift (reference s) turns, ok.goes c.args.c reference_in, ok.longest) in
+    omega (arith, on_cycle)
+
+pub returns : goal.returns
+returns c =
+    let B_read : to_z w32 (of_z w32 c.signed.result) ≡ B (timed_street c.args.s) =
     let base = c.requires.0 in
     let h = 2 * c.args.s.cycle in
     reread c.signed.result c.args.raised h (omega (arith, base.small, base.sound.longest)) (omega (arith, base.sound.longest)) c.signed.ensures
     ∙ c.signed.ensures
-    ∙ base.width
-
-pub offset_bounds-s-c : goal.offset_bounds-s-c
-offset_bounds-s-c c = omega (arith, reference_in c, c.requires.0.sound.few)
-
-pub bounds-s-c : goal.bounds-s-c
-bounds-s-c c = omega (arith, reference_in c, c.requires.0.sound.few)
-
-pub overflow_add-result : goal.overflow_add-result
-overflow_add-result c = omega (arith, reference_in c.before.before, c.requires.0.sound.few)
-
-pub overflow_cast-result : goal.overflow_cast-result
-overflow_cast-result c = omega (arith, reference_in c.before.before, c.requires.0.sound.few)
-
-pub overflow_add-f : goal.overflow_add-f
-overflow_add-f c = omega (arith, on_cycle c.before.before.before)
-
-pub remainder-requires : goal.remainder-requires
-remainder-requires c = omega (arith, on_cycle c.before.before.before)
-
-pub remainder-requires-2 : goal.remainder-requires-2
-remainder-requires-2 c = omega (arith, on_cycle c.before.before.before.before)
-
-pub returns : goal.returns
-returns c =
+    ∙ base.width in
     let s = timed_street c.args.s in
     let same = c.requires.1 in
     let own = c.requires.3 in
@@ -64,7 +78,7 @@ returns c =
     λ i.
     record {
       reference = same i + 1;
-      b = B_read c.before.before i;
+      b = B_read i;
       outbound = (w i).outbound;
       inbound = (w i).inbound;
       rounded = c.args.s.road.rounded;

@@ -9,43 +9,41 @@ use Rattle.decimal.proofs.Writing.{writes_twice, writes_as}
 use Rattle.plans.specs.declared.Answer.{Answer}
 use Rattle.printed.specs.Text.{plan_line, offset_lines, refusal_line, text_of}
 use Rattle.printed.proofs.answer_lines.Goals as goal
-use Rattle.printed.proofs.answer_lines.Goals.{After-shared_slice_known-1, In-Planned-2, In-Refused-2}
-
--- the text by the answer's kind
-abbrev offsets : After-shared_slice_known-1 → List ℕ
-offsets c = c.args.offsets.now
-
-abbrev text : After-shared_slice_known-1 → List ℕ
-text c = text_of c.args.answer (offsets c)
-
-planned : (c : In-Planned-2) → text c.before.before ≡ plan_line c.in-Planned.plan ++ offset_lines (offsets c.before.before)
-planned c = ap (λ (x : Answer). text_of x (offsets c.before.before)) c.in-Planned.is
-
-refused : (c : In-Refused-2) → text c.before.before ≡ refusal_line c.in-Refused.refusal
-refused c = ap (λ (x : Answer). text_of x (offsets c.before.before)) c.in-Refused.is
 
 pub plan_line-next-requires : goal.plan_line-next-requires
 plan_line-next-requires c =
-    let a = c.before.before in
-    let both = length-append (plan_line a.in-Planned.plan) (offset_lines (offsets a.before.before)) in
-    omega (arith, ap length (planned a), a.requires)
+    let offsets : List ℕ = c.args.offsets.now in
+    let text : List ℕ = text_of c.args.answer offsets in
+    let planned : text ≡ plan_line c.in-Planned.plan ++ offset_lines offsets = ap (λ (x : Answer). text_of x offsets) c.in-Planned.is in
+    let both = length-append (plan_line c.in-Planned.plan) (offset_lines offsets) in
+    omega (arith, ap length planned, c.requires)
 
 pub offset_lines-requires : goal.offset_lines-requires
 offset_lines-requires c =
-    let a = c.before.before.before.before.before.before in
-    let both = length-append (plan_line a.in-Planned.plan) (offset_lines (offsets a.before.before)) in
-    omega (arith, ap length (planned a), a.requires)
+    let offsets : List ℕ = c.args.offsets.now in
+    let text : List ℕ = text_of c.args.answer offsets in
+    let planned : text ≡ plan_line c.in-Planned.plan ++ offset_lines offsets = ap (λ (x : Answer). text_of x offsets) c.in-Planned.is in
+    let both = length-append (plan_line c.in-Planned.plan) (offset_lines offsets) in
+    omega (arith, ap length planned, c.requires)
 
 pub refusal_line-requires : goal.refusal_line-requires
 refusal_line-requires c =
-    let a = c.before.before in
-    omega (arith, ap length (refused a), a.requires)
+    let offsets : List ℕ = c.args.offsets.now in
+    let text : List ℕ = text_of c.args.answer offsets in
+    let refused : text ≡ refusal_line c.in-Refused.refusal = ap (λ (x : Answer). text_of x offsets) c.in-Refused.is in
+    omega (arith, ap length refused, c.requires)
 
 pub returns-in-Planned : goal.returns-in-Planned
 returns-in-Planned c =
-    let p = c.before.before.before.before.before.before in
-    writes_as (sym (planned p.before.before.before))
-    (writes_twice (omega arith) p.plan_line-next.ensures c.offset_lines.ensures)
+    let offsets : List ℕ = c.args.offsets.now in
+    let text : List ℕ = text_of c.args.answer offsets in
+    let planned : text ≡ plan_line c.in-Planned.plan ++ offset_lines offsets = ap (λ (x : Answer). text_of x offsets) c.in-Planned.is in
+    writes_as (sym planned)
+    (writes_twice (omega arith) c.plan_line-next.ensures c.offset_lines.ensures)
 
 pub returns-in-Refused : goal.returns-in-Refused
-returns-in-Refused c = writes_as (sym (refused c.before.before.before.before.before)) c.refusal_line.ensures
+returns-in-Refused c =
+    let offsets : List ℕ = c.args.offsets.now in
+    let text : List ℕ = text_of c.args.answer offsets in
+    let refused : text ≡ refusal_line c.in-Refused.refusal = ap (λ (x : Answer). text_of x offsets) c.in-Refused.is in
+    writes_as (sym refused) c.refusal_line.ensures

@@ -9,23 +9,24 @@ use Rattle.road.specs.Limits.{max_signals}
 use Rattle.printed.specs.Text.{text_of, printed_of}
 use Rattle.printed.proofs.Ways.{lent_le}
 use Rattle.printed.proofs.answer_text.Goals as goal
-use Rattle.printed.proofs.answer_text.Goals.{After-lent-n}
-
-few : (c : After-lent-n) → c.lent-n.result ≤ max_signals
-few c = lent_le c.args.signals c.lent-n.result c.lent-n.ensures
-
-within : (c : After-lent-n) → c.lent-n.result ≤ length c.args.offsets
-within c = let most = few c in search rules
 
 pub slice_bounds-offsets-end : goal.slice_bounds-offsets-end
-slice_bounds-offsets-end c = within c
+slice_bounds-offsets-end c =
+    let few : c.lent-n.result ≤ max_signals = lent_le c.args.signals c.lent-n.result c.lent-n.ensures in
+    let within : c.lent-n.result ≤ length c.args.offsets = let most = few in search rules in
+    within
 
 pub slice_bounds-text-end : goal.slice_bounds-text-end
-slice_bounds-text-end c = sym (length-take-le c.lent-n.result c.args.offsets (within c.before))
+slice_bounds-text-end c =
+    let few : c.lent-n.result ≤ max_signals = lent_le c.args.signals c.lent-n.result c.lent-n.ensures in
+    let within : c.lent-n.result ≤ length c.args.offsets = let most = few in search rules in
+    sym (length-take-le c.lent-n.result c.args.offsets within)
 
 pub text-requires : goal.text-requires
 text-requires c =
-    omega (arith, few c.before, length-take-le c.lent-n.result c.args.offsets (within c.before))
+    let few : c.lent-n.result ≤ max_signals = lent_le c.args.signals c.lent-n.result c.lent-n.ensures in
+    let within : c.lent-n.result ≤ length c.args.offsets = let most = few in search rules in
+    omega (arith, few, length-take-le c.lent-n.result c.args.offsets within)
 
 pub returns : goal.returns
 returns c =

@@ -3,11 +3,6 @@ use Prim.Native.Nat.{ℕ}
 use Rattle.sheet.proofs.Held.{reading_held}
 use Rattle.printed.proofs.Ways.{passed_answers, refused_answers}
 use Rattle.printed.proofs.equal_text.Goals as goal
-use Rattle.printed.proofs.equal_text.Goals.{After-read-reading}
-
--- once the sheet is read: the room
-abbrev room : After-read-reading → ℕ
-room c = c.args.room
 
 pub planned-requires : goal.planned-requires
 planned-requires c =
@@ -15,14 +10,12 @@ planned-requires c =
 
 pub returns-in-Refused : goal.returns-in-Refused
 returns-in-Refused c =
-    let v = c.before.before.before in
-    let r = v.before.before in
-    let answers = refused_answers (room r) r.read-reading.ensures v.in-Refused.is in
+    let room : ℕ = c.args.room in
+    let answers = refused_answers room c.read-reading.ensures c.in-Refused.is in
     record { answer = _; answers = answers; prints = record { reply = c.text.ensures } }
 
 pub returns-in-Passed : goal.returns-in-Passed
 returns-in-Passed c =
-    let told = c.before.before in
-    let r = told.before.before in
-    let answers = passed_answers (room r) r.read-reading.ensures told.in-Passed.is in
+    let room : ℕ = c.args.room in
+    let answers = passed_answers room c.read-reading.ensures c.in-Passed.is in
     record { answer = _; answers = answers; prints = record { reply = c.planned.ensures } }

@@ -9,17 +9,6 @@ use Rattle.printed.specs.Text.{offset_lines}
 use Rattle.printed.proofs.Lines.{offset-line, no_offset-line}
 use Rattle.printed.proofs.offset_lines.Invariants.{offsets}
 use Rattle.printed.proofs.offset_lines.Goals as goal
-use Rattle.printed.proofs.offset_lines.Goals.{At-loop-i}
-
--- the offsets, the line whose turn it is, and those after it
-abbrev Turn : Type 0
-Turn = At-loop-i
-
-abbrev line : Turn → List ℕ
-line t = decimal (get_or (offsets t) t.loop-i.i 0) ++ 10 ∷ []
-
-abbrev later : Turn → List ℕ
-later t = offset_lines (drop (t.loop-i.i + 1) (offsets t))
 
 parts : (t : Turn) → t.loop-i.i < length (offsets t) → offset_lines (drop t.loop-i.i (offsets t)) ≡ line t ++ later t
 parts t h = offset-line (offsets t) t.loop-i.i h
@@ -29,13 +18,15 @@ loop-i-init c = nothing_written _ _ _
 
 pub write_ended-next-requires : goal.write_ended-next-requires
 write_ended-next-requires c =
-    let t = c.before.before.before in
-    part_fits t.requires t.loop-i.invariant (line t) (later t) (parts t (omega arith))
+    let line : List ℕ = decimal (get_or (offsets c) c.loop-i.i 0) ++ 10 ∷ [] in
+    let later : List ℕ = offset_lines (drop (c.loop-i.i + 1) (offsets c)) in
+    part_fits c.requires c.loop-i.invariant line later (parts c (omega arith))
 
 pub loop-i-preserved : goal.loop-i-preserved
 loop-i-preserved c =
-    let t = c.before.before.before.before.before.before in
-    part_written t.requires t.loop-i.invariant (line t) (later t) (parts t (omega arith)) c.write_ended-next.ensures
+    let line : List ℕ = decimal (get_or (offsets c) c.loop-i.i 0) ++ 10 ∷ [] in
+    let later : List ℕ = offset_lines (drop (c.loop-i.i + 1) (offsets c)) in
+    part_written c.requires c.loop-i.invariant line later (parts c (omega arith)) c.write_ended-next.ensures
 
 pub returns : goal.returns
-returns c = all_written (no_offset-line (offsets c.before) c.loop-i.i (omega arith)) c.loop-i.invariant
+returns c = all_written (no_offset-line (offsets c) c.loop-i.i (omega arith)) c.loop-i.invariant

@@ -17,7 +17,6 @@ use Rattle.plans.specs.declared.Plan.{Plan}
 use Rattle.printed.specs.Text.{plan_line}
 use Rattle.printed.proofs.Lines.{five_items, five_sizes}
 use Rattle.printed.proofs.plan_line.Goals as goal
-use Rattle.printed.proofs.plan_line.Goals.{After-write_ended-c, After-write_ended-inbound, After-write_ended-outbound, After-write_signed-b, Start}
 
 -- an item and the space behind it, and the items that make the line
 abbrev item : ℕ → List ℕ
@@ -36,83 +35,80 @@ items p = five_items (decimal p.reference) (signed_decimal p.b) (decimal p.outbo
 abbrev size : Plan → ℕ
 size p = length (item p.reference) + length (b_item p.b) + length (item p.outbound) + length (item p.inbound) + length (last p)
 
-room : (c : Start) → c.args.at + size c.args.plan ≤ length c.args.bytes.now
-room c =
-    let p = c.args.plan in
-    let sizes = five_sizes (item p.reference) (b_item p.b) (item p.outbound) (item p.inbound) (last p) in
-    omega (arith, ap length (items p), c.requires)
-
--- B, read off its bits, is B again
-b_again : (c : Start) → b_item (to_z w32 (of_z w32 c.args.plan.b)) ≡ b_item c.args.plan.b
-b_again c = ap b_item (to_z-of_z w32 c.args.plan.b fits)
-  where
-    fits : SFits w32 c.args.plan.b
-    fits = search rules
-
--- the way back from each item to the one before it
-abbrev at_outbound : After-write_ended-inbound → After-write_ended-outbound
-at_outbound c = c.before.before.before.before
-
-abbrev at_b : After-write_ended-outbound → After-write_signed-b
-at_b c = c.before.before.before.before
-
-abbrev at_c : After-write_signed-b → After-write_ended-c
-at_c c = c.before.before.before.before.before
-
-abbrev entry : After-write_ended-c → Start
-entry c = c.before.before.before
-
--- the outbound width, in its own place
-outbound_item :
-    (c : After-write_ended-outbound)
-    → let signed = (at_b c).write_signed-b in
-    Writes
-    signed.result
-    (item (entry (at_c (at_b c))).args.plan.outbound)
-    signed.last.0
-    c.write_ended-outbound.new.bytes
-    c.write_ended-outbound.result
-outbound_item c = c.write_ended-outbound.ensures
-
 pub write_ended-c-requires : goal.write_ended-c-requires
-write_ended-c-requires c = omega (arith, room c.before.before)
+write_ended-c-requires c =
+    let room : c.args.at + size c.args.plan ≤ length c.args.bytes.now = 
+        let p = c.args.plan in
+        let sizes = five_sizes (item p.reference) (b_item p.b) (item p.outbound) (item p.inbound) (last p) in
+        omega (arith, ap length (items p), c.requires) in
+    omega (arith, room)
 
 pub write_signed-b-requires : goal.write_signed-b-requires
 write_signed-b-requires c =
-    let first = c.before.before.before.before in
-    omega (arith, room (entry first), ap length (b_again (entry first)), first.write_ended-c)
+    let room : c.args.at + size c.args.plan ≤ length c.args.bytes.now = 
+        let p = c.args.plan in
+        let sizes = five_sizes (item p.reference) (b_item p.b) (item p.outbound) (item p.inbound) (last p) in
+        omega (arith, ap length (items p), c.requires) in
+    let b_again : b_item (to_z w32 (of_z w32 c.args.plan.b)) ≡ b_item c.args.plan.b = 
+        ap b_item (to_z-of_z w32 c.args.plan.b fits)
+      where
+        fits : SFits w32 c.args.plan.b
+        fits = search rules in
+    omega (arith, room, ap length b_again, c.write_ended-c)
 
 pub write_ended-outbound-requires : goal.write_ended-outbound-requires
 write_ended-outbound-requires c =
-    let signed = c.before.before.before in
-    let first = at_c signed in
-    omega (arith, room (entry first), ap length (b_again (entry first)), first.write_ended-c, signed.write_signed-b)
+    let room : c.args.at + size c.args.plan ≤ length c.args.bytes.now = 
+        let p = c.args.plan in
+        let sizes = five_sizes (item p.reference) (b_item p.b) (item p.outbound) (item p.inbound) (last p) in
+        omega (arith, ap length (items p), c.requires) in
+    let b_again : b_item (to_z w32 (of_z w32 c.args.plan.b)) ≡ b_item c.args.plan.b = 
+        ap b_item (to_z-of_z w32 c.args.plan.b fits)
+      where
+        fits : SFits w32 c.args.plan.b
+        fits = search rules in
+    omega (arith, room, ap length b_again, c.write_ended-c, c.write_signed-b)
 
 pub write_ended-inbound-requires : goal.write_ended-inbound-requires
 write_ended-inbound-requires c =
-    let third = c.before.before.before in
-    let signed = at_b third in
-    let first = at_c signed in
-    omega (arith, room (entry first), ap length (b_again (entry first)), first.write_ended-c, signed.write_signed-b, third.write_ended-outbound)
+    let room : c.args.at + size c.args.plan ≤ length c.args.bytes.now = 
+        let p = c.args.plan in
+        let sizes = five_sizes (item p.reference) (b_item p.b) (item p.outbound) (item p.inbound) (last p) in
+        omega (arith, ap length (items p), c.requires) in
+    let b_again : b_item (to_z w32 (of_z w32 c.args.plan.b)) ≡ b_item c.args.plan.b = 
+        ap b_item (to_z-of_z w32 c.args.plan.b fits)
+      where
+        fits : SFits w32 c.args.plan.b
+        fits = search rules in
+    omega (arith, room, ap length b_again, c.write_ended-c, c.write_signed-b, c.write_ended-outbound)
 
 pub write_ended-requires : goal.write_ended-requires
 write_ended-requires c =
-    let fourth = c.before.before.before in
-    let third = at_outbound fourth in
-    let signed = at_b third in
-    let first = at_c signed in
-    let b = ap length (b_again (entry first)) in
-    omega (arith, room (entry first), first.write_ended-c, signed.write_signed-b, third.write_ended-outbound, fourth.write_ended-inbound)
+    let room : c.args.at + size c.args.plan ≤ length c.args.bytes.now = 
+        let p = c.args.plan in
+        let sizes = five_sizes (item p.reference) (b_item p.b) (item p.outbound) (item p.inbound) (last p) in
+        omega (arith, ap length (items p), c.requires) in
+    let b_again : b_item (to_z w32 (of_z w32 c.args.plan.b)) ≡ b_item c.args.plan.b = 
+        ap b_item (to_z-of_z w32 c.args.plan.b fits)
+      where
+        fits : SFits w32 c.args.plan.b
+        fits = search rules in
+    let b = ap length b_again in
+    omega (arith, room, c.write_ended-c, c.write_signed-b, c.write_ended-outbound, c.write_ended-inbound)
 
 pub returns : goal.returns
 returns c =
-    let fifth = c.before.before in
-    let fourth = fifth.before.before.before.before in
-    let third = at_outbound fourth in
-    let signed = at_b third in
-    let first = at_c signed in
-    let start = entry first in
-    let within : start.args.at ≤ length start.args.bytes.now = omega (arith, room start) in
-    let b = writes_as (b_again start) signed.write_signed-b.ensures in
-    let widths = writes_twice within (writes_twice within (writes_twice within first.write_ended-c.ensures b) (outbound_item third)) fourth.write_ended-inbound.ensures in
-    writes_as (items start.args.plan) (writes_twice within widths fifth.write_ended.ensures)
+    let room : c.args.at + size c.args.plan ≤ length c.args.bytes.now = 
+        let p = c.args.plan in
+        let sizes = five_sizes (item p.reference) (b_item p.b) (item p.outbound) (item p.inbound) (last p) in
+        omega (arith, ap length (items p), c.requires) in
+    let b_again : b_item (to_z w32 (of_z w32 c.args.plan.b)) ≡ b_item c.args.plan.b = 
+        ap b_item (to_z-of_z w32 c.args.plan.b fits)
+      where
+        fits : SFits w32 c.args.plan.b
+        fits = search rules in
+    let outbound_item : let signed = c.write_signed-b in Writes signed.result (item c.args.plan.outbound) signed.last.0 c.write_ended-outbound.new.bytes c.write_ended-outbound.result = c.write_ended-outbound.ensures in
+    let within : c.args.at ≤ length c.args.bytes.now = omega (arith, room) in
+    let b = writes_as b_again c.write_signed-b.ensures in
+    let widths = writes_twice within (writes_twice within (writes_twice within c.write_ended-c.ensures b) outbound_item) c.write_ended-inbound.ensures in
+    writes_as (items c.args.plan) (writes_twice within widths c.write_ended.ensures)

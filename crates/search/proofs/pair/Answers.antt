@@ -7,27 +7,27 @@ use lib.IntN.{pos, ◌-ℤ◌}
 use Rattle.circle.proofs.Numbers.{man_lt}
 use Rattle.search.proofs.Pairs.{pair_is}
 use Rattle.search.proofs.pair.Goals as goal
-use Rattle.search.proofs.pair.Goals.{After-back-even, After-back-odd}
-
--- each remainder lies on the cycle
-even_lt : (c : After-back-even) → c.back-even.result < 2 * c.args.cycle
-even_lt c =
-    let a = c.args in
-    omega (arith, man_lt (2 * a.cycle) (pos a.from -ℤ pos a.to) (omega (arith, c.requires.0)), c.back-even.ensures)
-
-odd_lt : (c : After-back-odd) → c.back-odd.result < 2 * c.args.cycle
-odd_lt c =
-    let a = c.args in
-    omega (arith, man_lt (2 * a.cycle) (pos c.back-even.result -ℤ pos a.cycle) (omega (arith, c.requires.0)), c.back-odd.ensures)
 
 pub back-odd-requires : goal.back-odd-requires
-back-odd-requires c = omega (arith, even_lt c)
+back-odd-requires c =
+    let even_lt : c.back-even.result < 2 * c.args.cycle =
+    let a = c.args in
+    omega (arith, man_lt (2 * a.cycle) (pos a.from -ℤ pos a.to) (omega (arith, c.requires.0)), c.back-even.ensures) in
+    omega (arith, even_lt)
 
 pub leaves-requires : goal.leaves-requires
-leaves-requires c = omega (arith, even_lt c.before)
+leaves-requires c =
+    let even_lt : c.back-even.result < 2 * c.args.cycle =
+    let a = c.args in
+    omega (arith, man_lt (2 * a.cycle) (pos a.from -ℤ pos a.to) (omega (arith, c.requires.0)), c.back-even.ensures) in
+    omega (arith, even_lt)
 
 pub leaves-requires-2 : goal.leaves-requires-2
-leaves-requires-2 c = omega (arith, odd_lt c.before)
+leaves-requires-2 c =
+    let odd_lt : c.back-odd.result < 2 * c.args.cycle =
+    let a = c.args in
+    omega (arith, man_lt (2 * a.cycle) (pos c.back-even.result -ℤ pos a.cycle) (omega (arith, c.requires.0)), c.back-odd.ensures) in
+    omega (arith, odd_lt)
 
 pub returns : goal.returns
 returns c =

@@ -8,35 +8,30 @@ use Rattle.sheet.specs.declared.Byte.TheVariants.{Digit}
 use Rattle.sheet.proofs.ByteKinds.{digit_is}
 use Rattle.sheet.proofs.Numbers.{more-past, more-space, more-line_end, more_other, more_digit, more_after_zero, more_after_eight}
 use Rattle.sheet.proofs.digits.Goals as goal
-use Rattle.sheet.proofs.digits.Goals.{In-Digit-2}
-
--- the byte that the match looked at is a digit, of the value that it took out
-digit_there : (c : In-Digit-2) →
-    kind_of (get_or c.args.bytes.now c.loop-at.at 0)
-    ≡ Digit c.in-Digit.digit
-digit_there c = sym c.kind.ensures ∙ c.in-Digit.is
 
 pub loop-at-init : goal.loop-at-init
 loop-at-init c = refl
 
 pub returns-then-value-eq0 : goal.returns-then-value-eq0
 returns-then-value-eq0 c =
-    let d = c.before.before in
-    sym (d.loop-at.invariant ∙ more_after_zero d.args.bytes.now d.loop-at.at _ (search rules) _ (digit_there d) c.if-value-eq0.true)
+    let digit_there : kind_of (get_or c.args.bytes.now c.loop-at.at 0) ≡ Digit c.in-Digit.digit = sym c.kind.ensures ∙ c.in-Digit.is in
+    sym (c.loop-at.invariant ∙ more_after_zero c.args.bytes.now c.loop-at.at _ (search rules) _ digit_there c.if-value-eq0.true)
 
 pub returns-then-value-gt9999999 : goal.returns-then-value-gt9999999
 returns-then-value-gt9999999 c =
-    let d = c.before.before.before in
-    sym (d.loop-at.invariant ∙ more_after_eight d.args.bytes.now d.loop-at.at _ (search rules) _ (digit_there d) c.if-value-gt9999999.true)
+    let digit_there : kind_of (get_or c.args.bytes.now c.loop-at.at 0) ≡ Digit c.in-Digit.digit = sym c.kind.ensures ∙ c.in-Digit.is in
+    sym (c.loop-at.invariant ∙ more_after_eight c.args.bytes.now c.loop-at.at _ (search rules) _ digit_there c.if-value-gt9999999.true)
 
 pub overflow_add-value : goal.overflow_add-value
-overflow_add-value c = omega (arith, (digit_is _ _ (digit_there c.before.before.before)).small)
+overflow_add-value c =
+    let digit_there : kind_of (get_or c.args.bytes.now c.loop-at.at 0) ≡ Digit c.in-Digit.digit = sym c.kind.ensures ∙ c.in-Digit.is in
+    omega (arith, (digit_is _ _ digit_there).small)
 
 pub loop-at-preserved : goal.loop-at-preserved
 loop-at-preserved c =
-    let d = c.before.before.before in
-    d.loop-at.invariant
-    ∙ more_digit d.args.bytes.now d.loop-at.at _ (search rules) _ (digit_there d) c.if-value-eq0.false c.if-value-gt9999999.false
+    let digit_there : kind_of (get_or c.args.bytes.now c.loop-at.at 0) ≡ Digit c.in-Digit.digit = sym c.kind.ensures ∙ c.in-Digit.is in
+    c.loop-at.invariant
+    ∙ more_digit c.args.bytes.now c.loop-at.at _ (search rules) _ digit_there c.if-value-eq0.false c.if-value-gt9999999.false
 
 pub returns-in-Space : goal.returns-in-Space
 returns-in-Space c =

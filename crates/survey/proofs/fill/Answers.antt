@@ -14,20 +14,6 @@ use Rattle.survey.specs.Typing.{thousandths, in_rows}
 use Rattle.survey.specs.Steps.{outbound_speed, inbound_speed}
 use Rattle.survey.proofs.RowLaws.{fault_at_lem, fault_nowhere, not_both, Good_row, reading_small, first_good, first_bad, following_good, following_bad}
 use Rattle.survey.proofs.fill.Goals as goal
-use Rattle.survey.proofs.fill.Goals.{In-Good, In-Good-judge}
-
--- the first row, and each that follows, as they were judged
-started : (c : In-Good) → let s = c.start-1.given.0 in Good_row (in_rows c.args.rows) 0 s.0 s.1.0 s.1.1.0
-started c =
-    let s = c.start-1.given in
-    first_good (in_rows c.args.rows) s.0.0 s.0.1.0 s.0.1.1.0 (sym c.first.ensures ∙ s.1)
-
-followed : (c : In-Good-judge) →
-    let s = c.distance-1.given.0 in
-    Good_row (in_rows c.args.rows) (c.loop-link.link + 1) s.0 s.1.0 s.1.1.0
-followed c =
-    let s = c.distance-1.given in
-    following_good (in_rows c.args.rows) c.loop-link.link c.loop-link.before s.0.0 s.0.1.0 s.0.1.1.0 c.loop-link.invariant.1 (sym c.judge.ensures ∙ s.1)
 
 pub returns-in_default : goal.returns-in_default
 returns-in_default c =
@@ -40,13 +26,20 @@ returns-in_default c =
     }
 
 pub overflow_mul-distances : goal.overflow_mul-distances
-overflow_mul-distances c = omega (arith, (started c).near)
+overflow_mul-distances c =
+    let started : let s = c.start-1.given.0 in Good_row (in_rows c.args.rows) 0 s.0 s.1.0 s.1.1.0 =
+    let s = c.start-1.given in
+    first_good (in_rows c.args.rows) s.0.0 s.0.1.0 s.0.1.1.0 (sym c.first.ensures ∙ s.1) in
+    omega (arith, started.near)
 
 pub loop-link-init : goal.loop-link-init
 unfolding list_below
 loop-link-init c =
+    let started : let s = c.start-1.given.0 in Good_row (in_rows c.args.rows) 0 s.0 s.1.0 s.1.1.0 =
+    let s = c.start-1.given in
+    first_good (in_rows c.args.rows) s.0.0 s.0.1.0 s.0.1.1.0 (sym c.first.ensures ∙ s.1) in
     let row = in_rows c.args.rows in
-    let g = started c in (
+    let g = started in (
       search rules,
       g.is,
       g.near,
@@ -68,18 +61,33 @@ returns-in_default-judge c =
     }
 
 pub overflow_mul-distances-in-loop-link : goal.overflow_mul-distances-in-loop-link
-overflow_mul-distances-in-loop-link c = omega (arith, (followed c).near)
+overflow_mul-distances-in-loop-link c =
+    let followed : let s = c.distance-1.given.0 in Good_row (in_rows c.args.rows) (c.loop-link.link + 1) s.0 s.1.0 s.1.1.0 =
+    let s = c.distance-1.given in
+    following_good (in_rows c.args.rows) c.loop-link.link c.loop-link.before s.0.0 s.0.1.0 s.0.1.1.0 c.loop-link.invariant.1 (sym c.judge.ensures ∙ s.1) in
+    omega (arith, followed.near)
 
 pub overflow_mul-outbound : goal.overflow_mul-outbound
-overflow_mul-outbound c = omega (arith, (followed c).out, reading_small (in_rows c.args.rows (c.loop-link.link + 1)).outbound)
+overflow_mul-outbound c =
+    let followed : let s = c.distance-1.given.0 in Good_row (in_rows c.args.rows) (c.loop-link.link + 1) s.0 s.1.0 s.1.1.0 =
+    let s = c.distance-1.given in
+    following_good (in_rows c.args.rows) c.loop-link.link c.loop-link.before s.0.0 s.0.1.0 s.0.1.1.0 c.loop-link.invariant.1 (sym c.judge.ensures ∙ s.1) in
+    omega (arith, followed.out, reading_small (in_rows c.args.rows (c.loop-link.link + 1)).outbound)
 
 pub overflow_mul-inbound : goal.overflow_mul-inbound
-overflow_mul-inbound c = omega (arith, (followed c).back, reading_small (in_rows c.args.rows (c.loop-link.link + 1)).inbound)
+overflow_mul-inbound c =
+    let followed : let s = c.distance-1.given.0 in Good_row (in_rows c.args.rows) (c.loop-link.link + 1) s.0 s.1.0 s.1.1.0 =
+    let s = c.distance-1.given in
+    following_good (in_rows c.args.rows) c.loop-link.link c.loop-link.before s.0.0 s.0.1.0 s.0.1.1.0 c.loop-link.invariant.1 (sym c.judge.ensures ∙ s.1) in
+    omega (arith, followed.back, reading_small (in_rows c.args.rows (c.loop-link.link + 1)).inbound)
 
 pub loop-link-preserved : goal.loop-link-preserved
 loop-link-preserved c =
+    let followed : let s = c.distance-1.given.0 in Good_row (in_rows c.args.rows) (c.loop-link.link + 1) s.0 s.1.0 s.1.1.0 =
+    let s = c.distance-1.given in
+    following_good (in_rows c.args.rows) c.loop-link.link c.loop-link.before s.0.0 s.0.1.0 s.0.1.1.0 c.loop-link.invariant.1 (sym c.judge.ensures ∙ s.1) in
     let row = in_rows c.args.rows in
-    let g = followed c in
+    let g = followed in
     let room : c.loop-link.link + 1 < max_signals = omega arith in (
       omega arith,
       g.is,

@@ -4,19 +4,23 @@ use native.Mathlib.Omega.{arith}
 use Rattle.street.specs.Limits.{max_cycle, max_volume, max_headway}
 use Rattle.traffic.proofs.VolumeLaws.{product_small}
 use Rattle.traffic.proofs.platoon.Goals as goal
-use Rattle.traffic.proofs.platoon.Goals.{Start}
-
-small : (c : Start) → (c.args.volume * c.args.cycle ≤ max_volume * max_cycle) × (c.args.volume * c.args.cycle * c.args.headway ≤ max_volume * max_cycle * max_headway)
-small c = product_small c.args.cycle c.args.headway c.args.volume c.requires.0 c.requires.1 c.requires.2
 
 pub overflow_mul-product : goal.overflow_mul-product
-overflow_mul-product c = omega (arith, small c)
+overflow_mul-product c =
+    let small : (c.args.volume * c.args.cycle ≤ max_volume * max_cycle) × (c.args.volume * c.args.cycle * c.args.headway ≤ max_volume * max_cycle * max_headway) = product_small c.args.cycle c.args.headway c.args.volume c.requires.0 c.requires.1 c.requires.2 in
+    omega (arith, small)
 
 pub overflow_mul-product-2 : goal.overflow_mul-product-2
-overflow_mul-product-2 c = omega (arith, small c)
+overflow_mul-product-2 c =
+    let small : (c.args.volume * c.args.cycle ≤ max_volume * max_cycle) × (c.args.volume * c.args.cycle * c.args.headway ≤ max_volume * max_cycle * max_headway) = product_small c.args.cycle c.args.headway c.args.volume c.requires.0 c.requires.1 c.requires.2 in
+    omega (arith, small)
 
 pub overflow_add-result : goal.overflow_add-result
-overflow_add-result c = omega (arith, small c)
+overflow_add-result c =
+    let small : (c.args.volume * c.args.cycle ≤ max_volume * max_cycle) × (c.args.volume * c.args.cycle * c.args.headway ≤ max_volume * max_cycle * max_headway) = product_small c.args.cycle c.args.headway c.args.volume c.requires.0 c.requires.1 c.requires.2 in
+    omega (arith, small)
 
 pub overflow_cast-result : goal.overflow_cast-result
-overflow_cast-result c = omega (arith, small c)
+overflow_cast-result c =
+    let small : (c.args.volume * c.args.cycle ≤ max_volume * max_cycle) × (c.args.volume * c.args.cycle * c.args.headway ≤ max_volume * max_cycle * max_headway) = product_small c.args.cycle c.args.headway c.args.volume c.requires.0 c.requires.1 c.requires.2 in
+    omega (arith, small)

@@ -5,11 +5,6 @@ use Rattle.traffic.proofs.VolumeLaws.{Judged, judged}
 use Rattle.widths.specs.Checks.{platoon_check}
 use Rattle.widths.proofs.WidthLaws.{traffic_is}
 use Rattle.widths.proofs.light_enough.Goals as goal
-use Rattle.widths.proofs.light_enough.Goals.{In_default}
-
--- once the volumes passed
-passed : (c : In_default) → Judged c.args.outbound c.args.inbound c.args.headway
-passed c = judged _ _ _ (sym c.check-judged.ensures ∙ c.in_default.is)
 
 pub returns-in-Refused : goal.returns-in-Refused
 returns-in-Refused c =
@@ -17,10 +12,14 @@ returns-in-Refused c =
     traffic_is a.cycle a.outbound a.inbound a.headway _ (sym c.check-judged.ensures ∙ c.in-Refused.is)
 
 pub platoon-requires : goal.platoon-requires
-platoon-requires c = (c.requires, (passed c).headway, (passed c).outbound)
+platoon-requires c =
+    let passed : Judged c.args.outbound c.args.inbound c.args.headway = judged _ _ _ (sym c.check-judged.ensures ∙ c.in_default.is) in
+    (c.requires, passed.headway, passed.outbound)
 
 pub platoon-requires-2 : goal.platoon-requires-2
-platoon-requires-2 c = (c.requires, (passed c.before).headway, (passed c.before).inbound)
+platoon-requires-2 c =
+    let passed : Judged c.args.outbound c.args.inbound c.args.headway = judged _ _ _ (sym c.check-judged.ensures ∙ c.in_default.is) in
+    (c.requires, passed.headway, passed.inbound)
 
 pub returns : goal.returns
 returns c =

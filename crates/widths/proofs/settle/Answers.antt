@@ -10,14 +10,6 @@ use Rattle.widths.specs.Moved.{platoon_shift, shift_of}
 use Rattle.widths.specs.Checks.{request_check}
 use Rattle.widths.proofs.WidthLaws.{platoons_short, traffic_passed}
 use Rattle.widths.proofs.settle.Goals as goal
-use Rattle.widths.proofs.settle.Goals.{In-Volumes}
-
--- volumes that passed their check
-light : (c : In-Volumes) → let a = c.request-in-Volumes-1.given.0 in let C = c.args.s.cycle in Judged a.0 a.1.0 a.1.1.0 × (platoon_of C a.1.1.0 a.0 ≤ max_platoon) × (platoon_of C a.1.1.0 a.1.0 ≤ max_platoon)
-light c =
-    let told = c.request-in-Volumes-1.given in
-    traffic_passed c.args.s.cycle told.0.0 told.0.1.0 told.0.1.1.0
-    (sym (ap (λ x. request_check x (timed_street c.args.s)) told.1) ∙ c.requires.1)
 
 pub favoured-requires : goal.favoured-requires
 favoured-requires c =
@@ -26,15 +18,28 @@ favoured-requires c =
     (c.requires.0, short.0, short.1)
 
 pub platoon-requires : goal.platoon-requires
-platoon-requires c = (c.requires.0.sound.longest, (light c).0.headway, (light c).0.outbound)
+platoon-requires c =
+    let light : let a = c.request-in-Volumes-1.given.0 in let C = c.args.s.cycle in Judged a.0 a.1.0 a.1.1.0 × (platoon_of C a.1.1.0 a.0 ≤ max_platoon) × (platoon_of C a.1.1.0 a.1.0 ≤ max_platoon) =
+    let told = c.request-in-Volumes-1.given in
+    traffic_passed c.args.s.cycle told.0.0 told.0.1.0 told.0.1.1.0
+    (sym (ap (λ x. request_check x (timed_street c.args.s)) told.1) ∙ c.requires.1) in
+    (c.requires.0.sound.longest, light.0.headway, light.0.outbound)
 
 pub platoon-requires-in-Volumes : goal.platoon-requires-in-Volumes
-platoon-requires-in-Volumes c = (c.requires.0.sound.longest, (light c.before).0.headway, (light c.before).0.inbound)
+platoon-requires-in-Volumes c =
+    let light : let a = c.request-in-Volumes-1.given.0 in let C = c.args.s.cycle in Judged a.0 a.1.0 a.1.1.0 × (platoon_of C a.1.1.0 a.0 ≤ max_platoon) × (platoon_of C a.1.1.0 a.1.0 ≤ max_platoon) =
+    let told = c.request-in-Volumes-1.given in
+    traffic_passed c.args.s.cycle told.0.0 told.0.1.0 told.0.1.1.0
+    (sym (ap (λ x. request_check x (timed_street c.args.s)) told.1) ∙ c.requires.1) in
+    (c.requires.0.sound.longest, light.0.headway, light.0.inbound)
 
 pub favoured-requires-in-Volumes : goal.favoured-requires-in-Volumes
 favoured-requires-in-Volumes c =
-    let told = c.before.before in
-    (told.requires.0, omega (arith, c.platoon.ensures, (light told).1), omega (arith, c.platoon-in-Volumes.ensures, (light told).2))
+    let light : let a = c.request-in-Volumes-1.given.0 in let C = c.args.s.cycle in Judged a.0 a.1.0 a.1.1.0 × (platoon_of C a.1.1.0 a.0 ≤ max_platoon) × (platoon_of C a.1.1.0 a.1.0 ≤ max_platoon) =
+    let told = c.request-in-Volumes-1.given in
+    traffic_passed c.args.s.cycle told.0.0 told.0.1.0 told.0.1.1.0
+    (sym (ap (λ x. request_check x (timed_street c.args.s)) told.1) ∙ c.requires.1) in
+    (c.requires.0, omega (arith, c.platoon.ensures, light.1), omega (arith, c.platoon-in-Volumes.ensures, light.2))
 
 pub returns-in-Outbound : goal.returns-in-Outbound
 returns-in-Outbound c =

@@ -7,26 +7,6 @@ use Rattle.decimal.proofs.Writing.{room_first, room_left, writes_twice, nothing_
 use Rattle.sheet.specs.Form.{pair_lines}
 use Rattle.writer.proofs.Lines.{left-item, right_item, pair_line_lem, no_pair-line}
 use Rattle.writer.proofs.pair_lines.Goals as goal
-use Rattle.writer.proofs.pair_lines.Goals.{At-loop-i}
-
--- the columns, the two items of the line whose turn it is, and the lines after it
-abbrev Turn : Type 0
-Turn = At-loop-i
-
-abbrev lefts : Turn → List ℕ
-lefts t = t.args.left.now
-
-abbrev rights : Turn → List ℕ
-rights t = t.args.right.now
-
-abbrev first : Turn → List ℕ
-first t = left-item (get_or (lefts t) t.loop-i.i 0)
-
-abbrev second : Turn → List ℕ
-second t = right_item (get_or (rights t) t.loop-i.i 0)
-
-abbrev later : Turn → List ℕ
-later t = pair_lines (drop (t.loop-i.i + 1) (lefts t)) (drop (t.loop-i.i + 1) (rights t))
 
 -- a turn, which has both numbers, and that there is room for its line
 record Whole (t : Turn) : Type 0 where
@@ -44,25 +24,31 @@ loop-i-init c = nothing_written _ _ _
 
 pub write_ended-second-requires : goal.write_ended-second-requires
 write_ended-second-requires c =
-    let t = c.before.before.before in
-    room_first t.loop-i.next (length t.loop-i.bytes) (first t) (second t) (room t (record { left = omega arith; right = omega arith }))
+    let lefts : List ℕ = c.args.left.now in
+    let first : List ℕ = left-item (get_or lefts c.loop-i.i 0) in
+    let rights : List ℕ = c.args.right.now in
+    let second : List ℕ = right_item (get_or rights c.loop-i.i 0) in
+    room_first c.loop-i.next (length c.loop-i.bytes) first second (room c (record { left = omega arith; right = omega arith }))
 
 pub write_ended-next-requires : goal.write_ended-next-requires
 write_ended-next-requires c =
-    let half = c.before.before.before.before in
-    let t = half.before.before.before.before in
-    room_left (second t) half.write_ended-second.ensures (room t (record { left = omega arith; right = omega arith }))
+    let rights : List ℕ = c.args.right.now in
+    let second : List ℕ = right_item (get_or rights c.loop-i.i 0) in
+    room_left second c.write_ended-second.ensures (room c (record { left = omega arith; right = omega arith }))
 
 pub loop-i-preserved : goal.loop-i-preserved
 loop-i-preserved c =
-    let whole = c.before.before in
-    let half = whole.before.before.before.before.before in
-    let t = half.before.before.before.before in
-    let here : Whole t = record { left = omega arith; right = omega arith } in
-    part_written t.requires.0 t.loop-i.invariant (first t ++ second t) (later t) (parts t here)
-    (writes_twice (omega (arith, room t here)) half.write_ended-second.ensures whole.write_ended-next.ensures)
+    let lefts : List ℕ = c.args.left.now in
+    let first : List ℕ = left-item (get_or lefts c.loop-i.i 0) in
+    let rights : List ℕ = c.args.right.now in
+    let second : List ℕ = right_item (get_or rights c.loop-i.i 0) in
+    let later : List ℕ = pair_lines (drop (c.loop-i.i + 1) lefts) (drop (c.loop-i.i + 1) rights) in
+    let here : Whole c = record { left = omega arith; right = omega arith } in
+    part_written c.requires.0 c.loop-i.invariant (first ++ second) later (parts c here)
+    (writes_twice (omega (arith, room c here)) c.write_ended-second.ensures c.write_ended-next.ensures)
 
 pub returns : goal.returns
 returns c =
-    let t = c.before in
-    all_written (no_pair-line (lefts t) (rights t) t.loop-i.i (omega arith)) t.loop-i.invariant
+    let lefts : List ℕ = c.args.left.now in
+    let rights : List ℕ = c.args.right.now in
+    all_written (no_pair-line lefts rights c.loop-i.i (omega arith)) c.loop-i.invariant

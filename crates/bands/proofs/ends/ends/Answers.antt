@@ -11,10 +11,6 @@ use Rattle.circle.proofs.Numbers.{fill_store, get_D_list_below}
 use Rattle.street.specs.Steps.{timed_by}
 use Rattle.bands.specs.Steps.{end_of}
 use Rattle.bands.proofs.ends.ends.Goals as goal
-use Rattle.bands.proofs.ends.ends.Goals.{Start}
-
-abbrev street_of : Start → Timed
-street_of c = timed_by c.args.cycle c.args.n c.args.reds.now c.args.outbound.now c.args.inbound.now
 
 pub loop-j-init : goal.loop-j-init
 unfolding list_below
@@ -38,21 +34,21 @@ remainder-requires c =
 
 pub loop-j-preserved : goal.loop-j-preserved
 loop-j-preserved c =
-    let c0 = c.before.before.before.before.before.before.before.before.before.before.before in
-    let s = street_of c0 in
-    let offsets = c0.args.offsets.now in
+    let street_of : Timed = timed_by c.args.cycle c.args.n c.args.reds.now c.args.outbound.now c.args.inbound.now in
+    let s = street_of in
+    let offsets = c.args.offsets.now in
     let loop = c.loop-j in
     let j = loop.j in
     let value = c.remainder.ensures ∙ ap (λ (k : ℕ). man (halves s) (pos (get_or offsets j 0 + s.red j) -ℤ pos k)) c.lag-after.ensures in
-    (omega arith, simp length-set loop.invariant.1, fill_store c0.args.all.now loop.all (end_of c0.args.direction s offsets) j c.remainder.result 0 (omega (arith, c0.requires.2)) loop.invariant.2 value)
+    (omega arith, simp length-set loop.invariant.1, fill_store c.args.all.now loop.all (end_of c.args.direction s offsets) j c.remainder.result 0 (omega (arith, c.requires.2)) loop.invariant.2 value)
 
 pub returns : goal.returns
 returns c =
-    let c0 = c.before.before.before.before.before in
+    let street_of : Timed = timed_by c.args.cycle c.args.n c.args.reds.now c.args.outbound.now c.args.inbound.now in
     let loop = c.loop-j in
     record {
       each =
           λ j l.
           ap (λ xs. get_or xs j 0) loop.invariant.2
-          ∙ get_D_list_below loop.j (end_of c0.args.direction (street_of c0) c0.args.offsets.now) _ j 0 (omega arith);
+          ∙ get_D_list_below loop.j (end_of c.args.direction street_of c.args.offsets.now) _ j 0 (omega arith);
     }

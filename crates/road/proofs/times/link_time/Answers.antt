@@ -30,8 +30,8 @@ returns c =
     let v = c.args.speed in
     let some : 0 < v = omega arith in
     let is : Nearest d v c.if-rest-speed.result =
-        elim c.if-rest-speed.branch [
-          then-rest-speed w ↦ subst (Nearest d v) (sym w.result-is) (up d v some w.if-rest-speed.true)
-          | else-rest-speed w ↦ subst (Nearest d v) (sym w.result-is) (down d v some w.if-rest-speed.false)
-        ] in
+    elim c.if-rest-speed.branch [
+      | then-rest-speed w ↦ subst (Nearest d v) (sym w.result-is) (up d v some w.if-rest-speed.true)
+      | else-rest-speed w ↦ subst (Nearest d v) (sym w.result-is) (down d v some w.if-rest-speed.false)
+    ] in
     (nearest_only d v c.if-rest-speed.result is, ap (λ (r : ℕ). eqb r 0) (left d v))

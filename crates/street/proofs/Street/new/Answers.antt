@@ -15,7 +15,6 @@ use Rattle.street.specs.declared.Verdict.{Verdict}
 use Rattle.street.specs.declared.Verdict.TheVariants.{Passed, Refused}
 use Rattle.street.proofs.Passed.{InLimits, in_limits}
 use Rattle.street.proofs.Street.new.Goals as goal
-use Rattle.street.proofs.Street.new.Goals.{After-judged-verdict, In-Passed, Start}
 
 abbrev answer : Verdict → Street → Built
 answer v s = record { verdict = v; street = s }
@@ -33,30 +32,24 @@ module _ (l : Lists) (room : ℕ) (v : Verdict) (is : v ≡ plan_checks l room) 
   empty : (f : Refusal) → v ≡ Refused f → answer v no_street ≡ built l room
   empty f told = simp (told, sym is ∙ told)
 
--- the entry, the lists that are judged there, and what they are known to be where the verdict passed
-abbrev entry : After-judged-verdict → Start
-entry c = c.before.before.before.before.before
-
-abbrev lists : After-judged-verdict → Lists
-lists c =
-    typed (entry c).args.cycle (entry c).args.reds.now (entry c).args.distances.now (entry c).args.outbound.now (entry c).args.inbound.now
-
-ready : (c : In-Passed) → InLimits (lists c.before.before) (entry c.before.before).args.lent
-ready c =
-    let at = c.before.before in passed (lists at) (entry at).args.lent _ at.judged-verdict.ensures c.in-Passed.is
-
 pub fill-rounded-requires : goal.fill-rounded-requires
-fill-rounded-requires c = let ok = ready c.before.before in (ok.outbound, ok.inbound, refl, refl)
+fill-rounded-requires c =
+    let lists : Lists = typed c.args.cycle c.args.reds.now c.args.distances.now c.args.outbound.now c.args.inbound.now in
+    let ready : InLimits lists c.args.lent = passed lists c.args.lent _ c.judged-verdict.ensures c.in-Passed.is in
+    let ok = ready in (ok.outbound, ok.inbound, refl, refl)
 
 pub copied-requires : goal.copied-requires
-copied-requires c = ((ready c.before.before.before.before).counts.most, refl)
+copied-requires c =
+    let lists : Lists = typed c.args.cycle c.args.reds.now c.args.distances.now c.args.outbound.now c.args.inbound.now in
+    let ready : InLimits lists c.args.lent = passed lists c.args.lent _ c.judged-verdict.ensures c.in-Passed.is in
+    (ready.counts.most, refl)
 
 pub returns-in-Passed : goal.returns-in-Passed
 returns-in-Passed c =
-    let at = c.before.before.before.before.before.before.before in
-    filled (lists at) (entry at).args.lent _ at.judged-verdict.ensures c.in-Passed.is _ _ _ _ c.fill-rounded.ensures c.copied.ensures
+    let lists : Lists = typed c.args.cycle c.args.reds.now c.args.distances.now c.args.outbound.now c.args.inbound.now in
+    filled lists c.args.lent _ c.judged-verdict.ensures c.in-Passed.is _ _ _ _ c.fill-rounded.ensures c.copied.ensures
 
 pub returns-in_default : goal.returns-in_default
 returns-in_default c =
-    let at = c.before.before in
-    empty (lists at) (entry at).args.lent _ at.judged-verdict.ensures _ c.in_default.is
+    let lists : Lists = typed c.args.cycle c.args.reds.now c.args.distances.now c.args.outbound.now c.args.inbound.now in
+    empty lists c.args.lent _ c.judged-verdict.ensures _ c.in_default.is

@@ -3,25 +3,21 @@
 use Rattle.street.specs.Lists.{Lists, typed}
 use Rattle.street.proofs.Passed.{plan-refused, plan-numbers, opening_tells}
 use Rattle.street.proofs.checks.judged.Goals as goal
-use Rattle.street.proofs.checks.judged.Goals.{Start}
-
-abbrev lists : Start → Lists
-lists c = typed c.args.ticks c.args.reds.now c.args.distances.now c.args.outbound.now c.args.inbound.now
 
 pub returns-in-Refused : goal.returns-in-Refused
 returns-in-Refused c =
-    let c0 = c.before.before.before.before.before.before.before.before in
+    let lists : Lists = typed c.args.ticks c.args.reds.now c.args.distances.now c.args.outbound.now c.args.inbound.now in
     let first = c.opening-opened in
-    plan-refused (lists c0) c0.args.lent first.result first.ensures c.in-Refused.f c.in-Refused.is
+    plan-refused lists c.args.lent first.result first.ensures c.in-Refused.f c.in-Refused.is
 
 pub numbers-requires : goal.numbers-requires
 numbers-requires c =
-    let c0 = c.before.before.before.before.before.before.before in
+    let lists : Lists = typed c.args.ticks c.args.reds.now c.args.distances.now c.args.outbound.now c.args.inbound.now in
     let first = c.opening-opened in
-    opening_tells (lists c0) c0.args.lent first.result first.ensures c.in_default.is
+    opening_tells lists c.args.lent first.result first.ensures c.in_default.is
 
 pub returns : goal.returns
 returns c =
-    let c0 = c.before.before.before.before.before.before.before.before in
+    let lists : Lists = typed c.args.ticks c.args.reds.now c.args.distances.now c.args.outbound.now c.args.inbound.now in
     let first = c.opening-opened in
-    plan-numbers (lists c0) c0.args.lent first.result first.ensures c.in_default.is c.numbers.result c.numbers.ensures
+    plan-numbers lists c.args.lent first.result first.ensures c.in_default.is c.numbers.result c.numbers.ensures
