@@ -10,7 +10,7 @@ use Rattle.circle.specs.Man.{man}
 use Rattle.circle.specs.Over.{list_below}
 use Rattle.circle.specs.Method.{Timed, in_units, red_start}
 use Rattle.circle.specs.Bands.{width, way_through}
-use Rattle.circle.proofs.Numbers.{get_D_list_below, length_list_below, man_lt}
+use Rattle.circle.proofs.Numbers.{get_or-list_below, length_list_below, man_lt}
 use Rattle.circle.proofs.Stretches.{width_alike}
 use Rattle.street.specs.Lists.{signals}
 use Rattle.street.specs.Streets.{timed}
@@ -25,7 +25,7 @@ use Rattle.cabinets.proofs.Kept.{reply_said, seconds_rounded}
 
 -- the entries of a list of offsets
 entry_is : (n : ℕ) (g : ℕ → ℕ) (j : ℕ) → j < n → get_or (list_below n g) j 0 ≡ g j
-entry_is n g j h = sym (ap (λ (x : List ℕ). get_or x j 0) (append-nil (list_below n g))) ∙ get_D_list_below n g [] j 0 h
+entry_is n g j h = sym (ap (λ (x : List ℕ). get_or x j 0) (append-nil (list_below n g))) ∙ get_or-list_below n g [] j 0 h
 
 -- in a unit of which one makes a half a way is the one in halves
 in_halves :

@@ -15,7 +15,7 @@ use Rattle.circle.specs.Man.{man}
 use Rattle.circle.specs.Over.{list_below}
 use Rattle.circle.specs.Method.{Timed, halves, u, reference, phase, offset, red_end, red_start}
 use Rattle.circle.specs.Moved.{chosen, lowered}
-use Rattle.circle.proofs.Numbers.{get_D_list_below, man_lt, man_is, man_turns}
+use Rattle.circle.proofs.Numbers.{get_or-list_below, man_lt, man_is, man_turns}
 use Rattle.circle.proofs.Formulas.{reference_lt, Fit, B⁺, phase_red, phase_rest, outbound-lowering, inbound-lowering, resting_outbound, resting_inbound}
 use Rattle.circle.proofs.Stretches.{offset_turns}
 use Rattle.road.specs.Steps.{max_time}
@@ -185,7 +185,7 @@ pub own_written : (s : Timed) (x : List ℕ) (c raised : ℕ) (shift : Shift) (b
     after ≡ list_below s.signals (moved_offset shift s) ++ drop s.signals before → get_or after c 0 ≡ moved_offset shift s (reference s)
 own_written s x c raised shift before after ok wrote =
     ap (λ xs. get_or xs c 0) wrote
-    ∙ get_D_list_below s.signals (moved_offset shift s) (drop s.signals before) c 0 (ready_lt s x c raised ok)
+    ∙ get_or-list_below s.signals (moved_offset shift s) (drop s.signals before) c 0 (ready_lt s x c raised ok)
     ∙ ap (moved_offset shift s) ok.found
 
 pub moved_lt : (s : Timed) (shift : Shift) (j : ℕ) → 0 < s.cycle → moved_offset shift s j < halves s

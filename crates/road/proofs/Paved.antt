@@ -4,19 +4,19 @@ use mathlib.Core.Path.{◌≡◌}
 use mathlib.Core.List.{List}
 use native.Mathlib.Omega.{arith}
 use lib.ListN.{length, drop, get_or, replicate}
-use Rattle.circle.proofs.Numbers.{get_D_list_below, sum_rises}
+use Rattle.circle.proofs.Numbers.{get_or-list_below, sum_rises}
 use Rattle.road.specs.Limits.{min_signals, max_signals}
 use Rattle.road.specs.Times.{link_ticks, time_to}
 use Rattle.road.specs.Steps.{max_time, Driveable, padded, road_of}
 use Rattle.road.specs.declared.Road.{Road}
 use Rattle.road.proofs.TimeLaws.{time_far}
 
-pub get_D_padded : (n : ℕ) (f : ℕ → ℕ) (k : ℕ) → k < n → get_or (padded n f) k 0 ≡ f k
-get_D_padded n f k l = get_D_list_below n f (drop n (replicate max_signals 0)) k 0 l
+pub get_or-padded : (n : ℕ) (f : ℕ → ℕ) (k : ℕ) → k < n → get_or (padded n f) k 0 ≡ f k
+get_or-padded n f k l = get_or-list_below n f (drop n (replicate max_signals 0)) k 0 l
 
 -- one direction's times
 far : (ds vs : List ℕ) → Driveable ds vs → (n k : ℕ) → k < n → n ≤ length ds → get_or (padded n (time_to ds vs)) k 0 ≤ max_time
-far ds vs ok n k h l = omega (arith, get_D_padded n (time_to ds vs) k h, time_far ds vs ok k (omega (arith, ok.ends)), ok.few)
+far ds vs ok n k h l = omega (arith, get_or-padded n (time_to ds vs) k h, time_far ds vs ok k (omega (arith, ok.ends)), ok.few)
 
 -- what holds of every road whose distances and speeds passed their checks; its inbound times grow along it, so that none is above signal n's
 pub record Paved (r : Road) : Type 0 where
@@ -35,7 +35,7 @@ paved n ds outs ins all out back =
       back = λ k h. far ds ins back n k h (omega arith);
       onward =
           λ k h.
-          let at-k = get_D_padded n (time_to ds ins) k h in
-          let last = get_D_padded n (time_to ds ins) (n - 1) (omega arith) in
+          let at-k = get_or-padded n (time_to ds ins) k h in
+          let last = get_or-padded n (time_to ds ins) (n - 1) (omega arith) in
           omega (arith, sum_rises (link_ticks ds ins) (n - 1) k (omega arith));
     }

@@ -3,7 +3,7 @@ use Prim.Native.Nat.{ℕ}
 use mathlib.Core.Path.{◌≡◌, refl, sym, ap, ◌∙◌, subst}
 use native.Mathlib.Omega.{arith}
 use Rattle.circle.proofs.Formulas.{Agree}
-use Rattle.road.proofs.Paved.{get_D_padded, paved}
+use Rattle.road.proofs.Paved.{get_or-padded, paved}
 use Rattle.street.specs.Lists.{Lists, signals}
 use Rattle.street.specs.Checks.{plan_checks}
 use Rattle.street.specs.Streets.{timed}
@@ -27,7 +27,7 @@ module _ (l : Lists) (room : ℕ) (passed : plan_checks l room ≡ Passed) where
         onward = road.onward;
         shortest = ok.cycle.low;
         longest = ok.cycle.high;
-        goes = λ k h. omega (arith, get_D_padded (signals l) (timed l).red k h, ok.reds k h, ok.cycle.low);
+        goes = λ k h. omega (arith, get_or-padded (signals l) (timed l).red k h, ok.reds k h, ok.cycle.low);
       }
 
   pub street_agrees : Agree (timed_street (street_of l)) (timed l)
@@ -35,9 +35,9 @@ module _ (l : Lists) (room : ℕ) (passed : plan_checks l room ≡ Passed) where
       record {
         cycle = refl;
         signals = refl;
-        red = λ k h. get_D_padded (signals l) (timed l).red k h;
-        outbound = λ k h. get_D_padded (signals l) (timed l).outbound k h;
-        inbound = λ k h. get_D_padded (signals l) (timed l).inbound k h;
+        red = λ k h. get_or-padded (signals l) (timed l).red k h;
+        outbound = λ k h. get_or-padded (signals l) (timed l).outbound k h;
+        inbound = λ k h. get_or-padded (signals l) (timed l).inbound k h;
       }
 
 -- what the constructor's answer says of the checks and of the street

@@ -130,17 +130,17 @@ unfolding list_below
 list_ext zero f g e = refl
 list_ext (suc n) f g e = ap₂ (λ xs x. xs ++ (x ∷ [])) (list_ext n f g (λ k l. e k (omega arith))) (e n (omega arith))
 
-pub get_D_list_below {ℓ} : {A : Type ℓ} (n : ℕ) (f : ℕ → A) (rest : List A) (k : ℕ) (d : A) → k < n → get_or (list_below n f ++ rest) k d ≡ f k
+pub get_or-list_below {ℓ} : {A : Type ℓ} (n : ℕ) (f : ℕ → A) (rest : List A) (k : ℕ) (d : A) → k < n → get_or (list_below n f ++ rest) k d ≡ f k
 unfolding list_below
-get_D_list_below zero f rest k d l = absurd (omega arith)
-get_D_list_below (suc n) f rest k d l =
+get_or-list_below zero f rest k d l = absurd (omega arith)
+get_or-list_below (suc n) f rest k d l =
     ap (λ x. get_or x k d) (append_assoc (list_below n f) (f n ∷ []) rest)
     ∙ ⊎_elim
     (λ e.
     ap (λ (i : ℕ). get_or (list_below n f ++ (f n ∷ rest)) i d) e
     ∙ get_or_at (list_below n f) (f n) rest d n (length_list_below n f)
     ∙ ap f (sym e))
-    (λ m. get_D_list_below n f (f n ∷ rest) k d m)
+    (λ m. get_or-list_below n f (f n ∷ rest) k d m)
     (eq-or-lt_of_le (le_of_suc-le-suc l))
 
 -- one more entry of a list that is filled from the front

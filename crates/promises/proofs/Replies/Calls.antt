@@ -10,7 +10,7 @@ use lib.ListN.{length, drop, get_or, length-append}
 use Rattle.circle.specs.Over.{list_below}
 use Rattle.circle.specs.Method.{Timed, reference, red_end, red_start}
 use Rattle.circle.specs.Moved.{in_range, platoon_width}
-use Rattle.circle.proofs.Numbers.{get_D_list_below, length_list_below}
+use Rattle.circle.proofs.Numbers.{get_or-list_below, length_list_below}
 use Rattle.circle.proofs.Formulas.{platoons_alone}
 use Rattle.street.specs.Lists.{Lists, signals}
 use Rattle.street.specs.Checks.{or_next, plan_checks, written}
@@ -50,7 +50,7 @@ planned (Refused f) p e = absurd (omega (arith, code_some f.code))
 
 -- the list that a call leaves has first what the call writes, signal by signal
 pub left : (v : Verdict) (n : ℕ) (f : ℕ → ℕ) (before : List ℕ) → v ≡ Passed → (j : ℕ) → j < n → get_or (written v (list_below n f) before) j 0 ≡ f j
-left Passed n f before e j h = get_D_list_below n f (drop (length (list_below n f)) before) j 0 h
+left Passed n f before e j h = get_or-list_below n f (drop (length (list_below n f)) before) j 0 h
 left (Refused r) n f before e j h = let z : ◌≡◌ {A = ℕ} 0 1 = cc in absurd (omega arith)
 
 -- and is at least as long as they are many

@@ -5,7 +5,7 @@ use native.Mathlib.Omega.{arith}
 use lib.ListN.{length-set, get_or}
 use borrow.Author.Rules.{rules}
 use Rattle.circle.specs.Over.{list_below}
-use Rattle.circle.proofs.Numbers.{fill_store, get_D_list_below}
+use Rattle.circle.proofs.Numbers.{fill_store, get_or-list_below}
 use Rattle.search.specs.Steps.{pair_of}
 use Rattle.search.proofs.fill.Goals as goal
 use Rattle.search.proofs.fill.Goals.{Start}
@@ -34,4 +34,4 @@ pub returns : goal.returns
 returns c =
     let c0 = c.before.before.before in
     let loop = c.loop-j in
-    (record { each = λ j l. ap (λ z. get_or z j []) loop.invariant.2 ∙ get_D_list_below loop.j (pair_at c0) _ j [] (omega arith) }, loop.invariant.1)
+    (record { each = λ j l. ap (λ z. get_or z j []) loop.invariant.2 ∙ get_or-list_below loop.j (pair_at c0) _ j [] (omega arith) }, loop.invariant.1)

@@ -5,7 +5,7 @@ use lib.ListN.{length-set, get_or}
 use borrow.Author.Rules.{rules}
 use Rattle.circle.specs.Method.{Timed}
 use Rattle.circle.specs.Over.{list_below}
-use Rattle.circle.proofs.Numbers.{fill_store, get_D_list_below}
+use Rattle.circle.proofs.Numbers.{fill_store, get_or-list_below}
 use Rattle.street.specs.Steps.{timed_by}
 use Rattle.search.specs.Steps.{anchor}
 use Rattle.search.proofs.reduce.Goals as goal
@@ -35,4 +35,4 @@ pub returns : goal.returns
 returns c =
     let street_of : Timed = timed_by c.args.cycle c.args.n c.args.reds.now c.args.outbound.now c.args.inbound.now in
     let loop = c.loop-k in
-    record { each = λ k l. ap (λ x. get_or x k 0) loop.invariant.2 ∙ get_D_list_below loop.k (anchor street_of) _ k 0 (omega arith) }
+    record { each = λ k l. ap (λ x. get_or x k 0) loop.invariant.2 ∙ get_or-list_below loop.k (anchor street_of) _ k 0 (omega arith) }

@@ -7,7 +7,7 @@ use borrow.Author.Rules.{rules}
 use Rattle.circle.specs.Man.{man}
 use Rattle.circle.specs.Method.{Timed, halves}
 use Rattle.circle.specs.Over.{list_below}
-use Rattle.circle.proofs.Numbers.{fill_store, get_D_list_below}
+use Rattle.circle.proofs.Numbers.{fill_store, get_or-list_below}
 use Rattle.street.specs.Steps.{timed_by}
 use Rattle.bands.specs.Steps.{end_of}
 use Rattle.bands.proofs.ends.ends.Goals as goal
@@ -50,5 +50,5 @@ returns c =
       each =
           λ j l.
           ap (λ xs. get_or xs j 0) loop.invariant.2
-          ∙ get_D_list_below loop.j (end_of c.args.direction street_of c.args.offsets.now) _ j 0 (omega arith);
+          ∙ get_or-list_below loop.j (end_of c.args.direction street_of c.args.offsets.now) _ j 0 (omega arith);
     }
