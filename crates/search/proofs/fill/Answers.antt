@@ -8,11 +8,10 @@ use Rattle.circle.specs.Over.{list_below}
 use Rattle.circle.proofs.Numbers.{fill_store, get_or-list_below}
 use Rattle.search.specs.Steps.{pair_of}
 use Rattle.search.proofs.fill.Goals as goal
-use Rattle.search.proofs.fill.Goals.{Start}
 
 -- the pair of the limit at an index
-abbrev pair_at : Start → ℕ → List ℕ
-pair_at c q = pair_of c.args.cycle (get_or c.args.x.now c.args.i 0) (get_or c.args.x.now q 0) (get_or c.args.reds.now q 0)
+abbrev pair_at : ℕ → List ℕ → List ℕ → ℕ → ℕ → List ℕ
+pair_at cycle x reds i q = pair_of cycle (get_or x i 0) (get_or x q 0) (get_or reds q 0)
 
 pub loop-j-init : goal.loop-j-init
 unfolding list_below
@@ -26,12 +25,10 @@ pair-requires c =
 
 pub loop-j-preserved : goal.loop-j-preserved
 loop-j-preserved c =
-    let c0 = c.before.before.before.before.before.before in
     let loop = c.loop-j in
-    (omega arith, simp length-set loop.invariant.1, fill_store c0.args.pairs.now loop.pairs (pair_at c0) loop.j c.pair.result [] (omega (arith, c0.requires.5)) loop.invariant.2 c.pair.ensures)
+    (omega arith, simp length-set loop.invariant.1, fill_store c.args.pairs.now loop.pairs (pair_at c.args.cycle c.args.x.now c.args.reds.now c.args.i) loop.j c.pair.result [] (omega (arith, c.requires.5)) loop.invariant.2 c.pair.ensures)
 
 pub returns : goal.returns
 returns c =
-    let c0 = c.before.before.before in
     let loop = c.loop-j in
-    (record { each = λ j l. ap (λ z. get_or z j []) loop.invariant.2 ∙ get_or-list_below loop.j (pair_at c0) _ j [] (omega arith) }, loop.invariant.1)
+    (record { each = λ j l. ap (λ z. get_or z j []) loop.invariant.2 ∙ get_or-list_below loop.j (pair_at c.args.cycle c.args.x.now c.args.reds.now c.args.i) _ j [] (omega arith) }, loop.invariant.1)

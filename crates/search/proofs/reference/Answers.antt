@@ -1,6 +1,5 @@
 use Prim.Native.Nat.{ℕ, ◌+◌, ◌-◌, ◌<◌}
 use mathlib.Core.Path.{subst, subst₂, ◌≡◌, refl, sym, ap, ◌∙◌}
-use mathlib.Core.Logic.{⊎_elim}
 use mathlib.Core.List.{[]}
 use native.Mathlib.Omega.{arith}
 use lib.ListN.{length-set, length, get_or, replicate, get_or-replicate}
@@ -12,6 +11,7 @@ use Rattle.street.specs.Steps.{timed_with}
 use Rattle.search.proofs.Leading.{leader_is, Leading, leads_first, leads_new, leads_still, row_set, fit_sound, candidate_is}
 use Rattle.search.specs.Steps.{PairRow, Turning, Finds}
 use Rattle.search.proofs.reference.Goals as goal
+use Rattle.search.proofs.reference.Goals.{then-most-candidate, else-most-candidate}
 
 pub loop-i-init : goal.loop-i-init
 loop-i-init c = (search rules, refl, λ q l. ap length (get_or-replicate max_signals q (replicate max_signals (replicate 2 0)) [] l), below_none _)
@@ -59,10 +59,10 @@ loop-k-preserved c =
           let lead = loop.invariant.2 out back ok anchors in
           let here =
           candidate_is a.cycle count a.reds.now a.x.now out back k (get_or rows.widths k []) new.result ok anchors (omega arith) (rows.invariant.3 k (omega arith)) new.ensures in
-          ⊎_elim
-          (λ w. subst₂ (Leading g (k + 1)) (sym w.1) (sym w.2) (leads_new g k loop.signal loop.most new.result lead w.0.taken here))
-          (λ w. subst₂ (Leading g (k + 1)) (sym w.1) (sym w.2) (leads_still g k loop.signal loop.most new.result lead w.0.left here))
-          c.if-most-candidate.branch
+          elim c.if-most-candidate.branch [
+            then-most-candidate w ↦ subst₂ (Leading g (k + 1)) (sym w.signal-is) (sym w.most-is) (leads_new g k loop.signal loop.most new.result lead w.if-most-candidate.true here)
+            | else-most-candidate w ↦ subst₂ (Leading g (k + 1)) (sym w.signal-is) (sym w.most-is) (leads_still g k loop.signal loop.most new.result lead w.if-most-candidate.false here)
+          ]
           ),
     )
 

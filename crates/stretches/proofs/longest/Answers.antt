@@ -1,5 +1,4 @@
 use Prim.Native.Nat.{ℕ, ◌-◌, ◌<◌}
-use mathlib.Core.Logic.{⊎_elim}
 use mathlib.Core.Path.{◌≡◌, refl, sym, ap, ◌∙◌}
 use native.Mathlib.Omega.{arith}
 use lib.ListN.{get_or}
@@ -9,6 +8,7 @@ use Rattle.circle.proofs.Stretches.{left, longest-least}
 use Rattle.stretches.specs.Steps.{seen_by}
 use Rattle.stretches.proofs.SearchLaws.{least_lower, least_still, proper_seen, left-seen}
 use Rattle.stretches.proofs.longest.Goals as goal
+use Rattle.stretches.proofs.longest.Goals.{then-room-least, else-room-least}
 
 pub loop-j-init : goal.loop-j-init
 unfolding min_below
@@ -29,10 +29,10 @@ loop-j-preserved c =
     let lj : j < a.n = omega arith in
     let here = c.left-room.ensures ∙ left-seen a.h a.n red a.ends.now c.requires.2 a.x j lj in (
       omega arith,
-      ⊎_elim
-          (λ w. w.1 ∙ least_lower a.h j leaves _ _ so_far here w.0.taken)
-          (λ w. w.1 ∙ least_still a.h j leaves _ _ so_far here w.0.left)
-          c.if-room-least.branch,
+      elim c.if-room-least.branch [
+        then-room-least w ↦ w.least-is ∙ least_lower a.h j leaves _ _ so_far here w.if-room-least.true
+        | else-room-least w ↦ w.least-is ∙ least_still a.h j leaves _ _ so_far here w.if-room-least.false
+      ],
     )
 
 pub returns : goal.returns
