@@ -17,7 +17,7 @@ use Rattle.sheet.specs.Reading.{in_array}
 use Rattle.sheet.specs.Steps.Numbers.{followed, ended, number}
 use Rattle.sheet.specs.Steps.Sections.{Lines, lines, fault, above, pairs}
 use Rattle.sheet.specs.Steps.Cursors.{taken_at, in_arrays}
-use Rattle.sheet.proofs.Otherwise.{number_tag, no_space, no_line_end}
+use Rattle.sheet.proofs.Otherwise.{IsNotSpaced, IsNotEnded, no_space, no_line_end}
 
 abbrev pub prepend : List ℕ → List ℕ → Lines → Lines
 prepend xs ys (lines as' bs rest) = lines (xs ++ as') (ys ++ bs) rest
@@ -99,14 +99,14 @@ module _ {s : List ℕ} {from count : ℕ} {left right : List ℕ} {at i : ℕ} 
   faulty_here e = v.so_far.joined ∙ ap (prepend (take i left) (take i right)) e
 
   -- no first number: the lines stop here
-  pub no_first : (n : Number) → taken_at s n ≡ number (drop at s) → (number_tag n ≡ 1) ⊎ (number_tag n ≡ 2) →
+  pub no_first : (n : Number) → taken_at s n ≡ number (drop at s) → IsNotSpaced n →
       pairs count (drop from s) ≡ fault Sheet
   unfolding pairs
   no_first n e o = faulty_here (rw (one_more, ← e) (no_space s _ _ n o))
 
   module _ {x : ℕ} (next : ℕ) (p : number (drop at s) ≡ followed x (drop next s)) where
     -- no second number: they stop here too
-    pub no_second : (n : Number) → taken_at s n ≡ number (drop next s) → (number_tag n ≡ 0) ⊎ (number_tag n ≡ 2) →
+    pub no_second : (n : Number) → taken_at s n ≡ number (drop next s) → IsNotEnded n →
         pairs count (drop from s) ≡ fault Sheet
     unfolding pairs
     no_second n e o = faulty_here (rw (one_more, p, ← e) (no_line_end s _ _ n o))

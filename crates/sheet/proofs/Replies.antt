@@ -19,7 +19,7 @@ use Rattle.sheet.specs.Steps.Numbers.{ended}
 use Rattle.sheet.specs.Steps.Sections.{fault, section, cycle_section}
 use Rattle.sheet.specs.Steps.Parsed.{refused, parsed, after_cycle, after_signals, at_end, to_reading}
 use Rattle.sheet.specs.Steps.Cursors.{taken_at, outcome_reading}
-use Rattle.sheet.proofs.Otherwise.{number_tag, no_line_end}
+use Rattle.sheet.proofs.Otherwise.{IsNotEnded, no_line_end}
 use Rattle.sheet.proofs.Sections.{Took}
 
 pub too_long : (s : List ℕ) → max_bytes < length s → parsed s ≡ refused code.Sheet
@@ -27,7 +27,7 @@ unfolding parsed
 too_long s h = rw (lt-leb (length s) max_bytes h) refl
 
 pub no_cycle : (s : List ℕ) → length s ≤ max_bytes → (n : Number) → taken_at s n ≡ cycle_section s →
-    (number_tag n ≡ 0) ⊎ (number_tag n ≡ 2) → parsed s ≡ refused code.Sheet
+    IsNotEnded n → parsed s ≡ refused code.Sheet
 unfolding parsed
 no_cycle s short n e o = rw (le-leb (length s) max_bytes short, ← e) (no_line_end s _ _ n o)
 

@@ -18,11 +18,11 @@ use Rattle.sheet.specs.Reading.{in_array}
 use Rattle.sheet.specs.Steps.Numbers.{unreadable, ended, number}
 use Rattle.sheet.specs.Steps.Sections.{Lines, lines, fault, pairs, section, cycle_section}
 use Rattle.sheet.specs.Steps.Cursors.{taken_at, in_arrays, columns}
-use Rattle.sheet.proofs.Otherwise.{number_tag, no_line_end}
+use Rattle.sheet.proofs.Otherwise.{IsNotEnded, no_line_end}
 use Rattle.sheet.proofs.Backwards.{past-line, past_test, past-pair, not_lines, FirstLine}
 
 module _ (s : List ℕ) (at : ℕ) where
-  module _ (n : Number) (e : taken_at s n ≡ number (drop at s)) (o : (number_tag n ≡ 0) ⊎ (number_tag n ≡ 2)) where
+  module _ (n : Number) (e : taken_at s n ≡ number (drop at s)) (o : IsNotEnded n) where
     pub cycle_no_count : cycle_section (drop at s) ≡ unreadable
     unfolding cycle_section
     cycle_no_count = rw (← e) (no_line_end s _ _ n o)

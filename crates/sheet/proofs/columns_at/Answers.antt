@@ -13,7 +13,7 @@ loop-i-init c =
 pub returns-in_default : goal.returns-in_default
 returns-in_default c =
     let turn : Turn c.args.bytes.now c.args.from c.args.count c.loop-i.left c.loop-i.right c.loop-i.at c.loop-i.i = record { so_far = c.loop-i.invariant; left_over = c.loop-i-test.true; few = c.requires.0 } in
-    sym (ap in_arrays (no_first turn c.number_at.result c.number_at.ensures c.in_default.keys2))
+    sym (ap in_arrays (no_first turn c.number_at.result c.number_at.ensures c.in_default.not-Spaced))
 
 pub returns-in_default-number_at : goal.returns-in_default-number_at
 returns-in_default-number_at c =
@@ -23,7 +23,7 @@ returns-in_default-number_at c =
     ∙ ap (taken_at c.args.bytes.now) c.in-Spaced.is in
     sym
     (ap in_arrays
-    (no_second turn c.in-Spaced.next first_number c.number_at-in-loop-i.result c.number_at-in-loop-i.ensures c.in_default-number_at.keys2))
+    (no_second turn c.in-Spaced.next first_number c.number_at-in-loop-i.result c.number_at-in-loop-i.ensures c.in_default-number_at.not-Ended))
 
 pub loop-i-preserved : goal.loop-i-preserved
 loop-i-preserved c =

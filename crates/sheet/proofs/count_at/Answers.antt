@@ -7,7 +7,7 @@ use Rattle.sheet.proofs.count_at.Goals as goal
 pub returns-in_default : goal.returns-in_default
 returns-in_default c =
     let a = c.args in
-    (sym (section_no_count a.bytes.now a.at c.number_at.result c.number_at.ensures c.in_default.keys2 a.least a.most), tt)
+    (sym (section_no_count a.bytes.now a.at c.number_at.result c.number_at.ensures c.in_default.not-Ended a.least a.most), tt)
 
 pub returns-then-lines-least : goal.returns-then-lines-least
 returns-then-lines-least c =

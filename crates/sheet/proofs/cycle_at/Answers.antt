@@ -7,7 +7,7 @@ use Rattle.sheet.proofs.cycle_at.Goals as goal
 pub returns-in_default : goal.returns-in_default
 returns-in_default c =
     let a = c.args in
-    sym (cycle_no_count a.bytes.now a.at c.number_at.result c.number_at.ensures c.in_default.keys2)
+    sym (cycle_no_count a.bytes.now a.at c.number_at.result c.number_at.ensures c.in_default.not-Ended)
 
 pub returns-then-count-ne1 : goal.returns-then-count-ne1
 returns-then-count-ne1 c =

@@ -9,11 +9,11 @@ use Rattle.sheet.proofs.fill.Goals as goal
 pub returns-in-Whole : goal.returns-in-Whole
 returns-in-Whole c =
     let p = c.parse in
-    let l = p.new.1 in
-    reads (sym (ap (λ (o : Outcome). outcome_reading o l.0 l.1.0 l.1.1.0 l.1.1.1.0) c.in-Whole.is) ∙ p.ensures)
+    let l = p.new in
+    reads (sym (ap (λ (o : Outcome). outcome_reading o l.reds l.distances l.outbound l.inbound) c.in-Whole.is) ∙ p.ensures)
 
 pub returns-in-Fault : goal.returns-in-Fault
 returns-in-Fault c =
     let p = c.parse in
-    let l = p.new.1 in
-    reads (sym (ap (λ (o : Outcome). outcome_reading o l.0 l.1.0 l.1.1.0 l.1.1.1.0) c.in-Fault.is) ∙ p.ensures)
+    let l = p.new in
+    reads (sym (ap (λ (o : Outcome). outcome_reading o l.reds l.distances l.outbound l.inbound) c.in-Fault.is) ∙ p.ensures)

@@ -15,7 +15,7 @@ pub returns-in-48-to-57 : goal.returns-in-48-to-57
 returns-in-48-to-57 c = sym (digit_kind _ (search rules) (search rules))
 
 pub returns-in_default : goal.returns-in_default
-returns-in_default c = sym (below_kind _ (search rules) c.in_default-1.rest.0.1 c.in_default-1.rest.1)
+returns-in_default c = sym (below_kind _ (search rules) (search rules) (search rules))
 
 pub returns-in_default-2 : goal.returns-in_default-2
 returns-in_default-2 c = sym (above_kind _ (search rules))

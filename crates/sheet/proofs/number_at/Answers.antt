@@ -18,7 +18,7 @@ returns-in_default c =
     sym
     (number_there a.bytes.now a.at c.if-at-bytes.false
     ∙ ap (λ (b : Byte). on_first b (drop (a.at + 1) a.bytes.now)) (sym c.kind-first.ensures)
-    ∙ no_digit c.kind-first.result _ c.in_default.keys2)
+    ∙ no_digit c.kind-first.result _ c.in_default.not-Digit)
 
 pub returns : goal.returns
 returns c =

@@ -20,7 +20,7 @@ returns-then-bytes-gt-MAX_BYTES c = sym (ap to_reading (too_long c.args.bytes.no
 
 pub returns-in_default : goal.returns-in_default
 returns-in_default c =
-    sym (ap to_reading (no_cycle c.args.bytes.now c.if-bytes-gt-MAX_BYTES.false c.cycle_at.result c.cycle_at.ensures c.in_default.keys2))
+    sym (ap to_reading (no_cycle c.args.bytes.now c.if-bytes-gt-MAX_BYTES.false c.cycle_at.result c.cycle_at.ensures c.in_default.not-Ended))
 
 pub columns_at-requires : goal.columns_at-requires
 columns_at-requires c =
@@ -33,12 +33,12 @@ returns-in_default-columns_at c =
     let cycle_at : CycleAt sheet c.in-Ended.cycle c.in-Ended.at = record { short = c.if-bytes-gt-MAX_BYTES.false; first = sym c.cycle_at.ensures ∙ ap (taken_at sheet) c.in-Ended.is } in
     let signals_open : section min_signals max_signals (drop c.in-Ended.at sheet) ≡ pairs c.in-Of.signals (drop c.in-Of.first sheet) = sym c.count_at.ensures.0 ∙ ap (opened_at sheet) c.in-Of.is in
     let s = sheet in
-    let l = c.columns_at.new.1.1.1 in
+    let d = c.columns_at in
     sym
     (ap to_reading
     (signals_fault cycle_at
-    (took_none s l.0 l.1.0 c.in-Of.signals (drop c.in-Of.first s) signals_open
-    (sym (ap (λ (t : Stand). columns s t l.0 l.1.0) c.in_default-columns_at.is) ∙ c.columns_at.ensures))))
+    (took_none s d.new.left d.new.right c.in-Of.signals (drop c.in-Of.first s) signals_open
+    (sym (ap (λ (t : Stand). columns s t d.new.left d.new.right) c.in_default-columns_at.is) ∙ c.columns_at.ensures))))
 
 pub overflow_sub-count : goal.overflow_sub-count
 overflow_sub-count c =
@@ -61,19 +61,18 @@ returns-in_default-columns_at-2 c =
     let rows : Took sheet c.columns_at.new.left c.columns_at.new.right (section min_signals max_signals (drop c.in-Ended.at sheet)) c.in-Of.signals c.in-At.next =
     let s = sheet in
     let d = c.columns_at in
-    let l = d.new.1.1.1 in
-    took s l.0 l.1.0 c.in-Of.signals (drop c.in-Of.first s) signals_open c.in-At.next
-    (sym (ap (λ (t : Stand). columns s t l.0 l.1.0) c.in-At.is) ∙ d.ensures) in
+    took s d.new.left d.new.right c.in-Of.signals (drop c.in-Of.first s) signals_open c.in-At.next
+    (sym (ap (λ (t : Stand). columns s t d.new.left d.new.right) c.in-At.is) ∙ d.ensures) in
     let links_open : section (c.in-Of.signals - 1) (c.in-Of.signals - 1) (drop c.in-At.next sheet) ≡ pairs c.in-Of-count_at.links (drop c.in-Of-count_at.second sheet) =
     sym c.count_at-in-Of.ensures.0
     ∙ ap (opened_at sheet) c.in-Of-count_at.is in
     let s = sheet in
-    let l = c.columns_at-in-Of-count_at.new.1.1.1 in
+    let d = c.columns_at-in-Of-count_at in
     sym
     (ap to_reading
     (links_fault cycle_at rows
-    (took_none s l.0 l.1.0 c.in-Of-count_at.links (drop c.in-Of-count_at.second s) links_open
-    (sym (ap (λ (t : Stand). columns s t l.0 l.1.0) c.in_default-columns_at-2.is) ∙ c.columns_at-in-Of-count_at.ensures))))
+    (took_none s d.new.left d.new.right c.in-Of-count_at.links (drop c.in-Of-count_at.second s) links_open
+    (sym (ap (λ (t : Stand). columns s t d.new.left d.new.right) c.in_default-columns_at-2.is) ∙ c.columns_at-in-Of-count_at.ensures))))
 
 pub returns-then-last-bytes : goal.returns-then-last-bytes
 returns-then-last-bytes c =
@@ -83,18 +82,16 @@ returns-then-last-bytes c =
     let rows : Took sheet c.columns_at.new.left c.columns_at.new.right (section min_signals max_signals (drop c.in-Ended.at sheet)) c.in-Of.signals c.in-At.next =
     let s = sheet in
     let d = c.columns_at in
-    let l = d.new.1.1.1 in
-    took s l.0 l.1.0 c.in-Of.signals (drop c.in-Of.first s) signals_open c.in-At.next
-    (sym (ap (λ (t : Stand). columns s t l.0 l.1.0) c.in-At.is) ∙ d.ensures) in
+    took s d.new.left d.new.right c.in-Of.signals (drop c.in-Of.first s) signals_open c.in-At.next
+    (sym (ap (λ (t : Stand). columns s t d.new.left d.new.right) c.in-At.is) ∙ d.ensures) in
     let links_open : section (c.in-Of.signals - 1) (c.in-Of.signals - 1) (drop c.in-At.next sheet) ≡ pairs c.in-Of-count_at.links (drop c.in-Of-count_at.second sheet) =
     sym c.count_at-in-Of.ensures.0
     ∙ ap (opened_at sheet) c.in-Of-count_at.is in
     let speeds : Took sheet c.columns_at-in-Of-count_at.new.left c.columns_at-in-Of-count_at.new.right (section (c.in-Of.signals - 1) (c.in-Of.signals - 1) (drop c.in-At.next sheet)) c.in-Of-count_at.links c.in-At-columns_at.last =
     let s = sheet in
     let d = c.columns_at-in-Of-count_at in
-    let l = d.new.1.1.1 in
-    took s l.0 l.1.0 c.in-Of-count_at.links (drop c.in-Of-count_at.second s) links_open c.in-At-columns_at.last
-    (sym (ap (λ (t : Stand). columns s t l.0 l.1.0) c.in-At-columns_at.is) ∙ d.ensures) in
+    took s d.new.left d.new.right c.in-Of-count_at.links (drop c.in-Of-count_at.second s) links_open c.in-At-columns_at.last
+    (sym (ap (λ (t : Stand). columns s t d.new.left d.new.right) c.in-At-columns_at.is) ∙ d.ensures) in
     sym (ap to_reading (bytes_left cycle_at rows speeds c.if-last-bytes.true))
 
 pub returns-in-Wrong : goal.returns-in-Wrong
@@ -111,9 +108,8 @@ returns-in-Wrong-count_at c =
     let rows : Took sheet c.columns_at.new.left c.columns_at.new.right (section min_signals max_signals (drop c.in-Ended.at sheet)) c.in-Of.signals c.in-At.next =
     let s = sheet in
     let d = c.columns_at in
-    let l = d.new.1.1.1 in
-    took s l.0 l.1.0 c.in-Of.signals (drop c.in-Of.first s) signals_open c.in-At.next
-    (sym (ap (λ (t : Stand). columns s t l.0 l.1.0) c.in-At.is) ∙ d.ensures) in
+    took s d.new.left d.new.right c.in-Of.signals (drop c.in-Of.first s) signals_open c.in-At.next
+    (sym (ap (λ (t : Stand). columns s t d.new.left d.new.right) c.in-At.is) ∙ d.ensures) in
     sym (ap to_reading (links_fault cycle_at rows (sym c.count_at-in-Of.ensures.0 ∙ ap (opened_at sheet) c.in-Wrong-count_at.is)))
 
 pub returns-else-last-bytes : goal.returns-else-last-bytes
@@ -124,16 +120,14 @@ returns-else-last-bytes c =
     let rows : Took sheet c.columns_at.new.left c.columns_at.new.right (section min_signals max_signals (drop c.in-Ended.at sheet)) c.in-Of.signals c.in-At.next =
     let s = sheet in
     let d = c.columns_at in
-    let l = d.new.1.1.1 in
-    took s l.0 l.1.0 c.in-Of.signals (drop c.in-Of.first s) signals_open c.in-At.next
-    (sym (ap (λ (t : Stand). columns s t l.0 l.1.0) c.in-At.is) ∙ d.ensures) in
+    took s d.new.left d.new.right c.in-Of.signals (drop c.in-Of.first s) signals_open c.in-At.next
+    (sym (ap (λ (t : Stand). columns s t d.new.left d.new.right) c.in-At.is) ∙ d.ensures) in
     let links_open : section (c.in-Of.signals - 1) (c.in-Of.signals - 1) (drop c.in-At.next sheet) ≡ pairs c.in-Of-count_at.links (drop c.in-Of-count_at.second sheet) =
     sym c.count_at-in-Of.ensures.0
     ∙ ap (opened_at sheet) c.in-Of-count_at.is in
     let speeds : Took sheet c.columns_at-in-Of-count_at.new.left c.columns_at-in-Of-count_at.new.right (section (c.in-Of.signals - 1) (c.in-Of.signals - 1) (drop c.in-At.next sheet)) c.in-Of-count_at.links c.in-At-columns_at.last =
     let s = sheet in
     let d = c.columns_at-in-Of-count_at in
-    let l = d.new.1.1.1 in
-    took s l.0 l.1.0 c.in-Of-count_at.links (drop c.in-Of-count_at.second s) links_open c.in-At-columns_at.last
-    (sym (ap (λ (t : Stand). columns s t l.0 l.1.0) c.in-At-columns_at.is) ∙ d.ensures) in
+    took s d.new.left d.new.right c.in-Of-count_at.links (drop c.in-Of-count_at.second s) links_open c.in-At-columns_at.last
+    (sym (ap (λ (t : Stand). columns s t d.new.left d.new.right) c.in-At-columns_at.is) ∙ d.ensures) in
     nothing_left cycle_at rows speeds c.if-last-bytes.false
