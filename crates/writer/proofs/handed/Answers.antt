@@ -1,9 +1,9 @@
 -- `handed` meets its contract: the answer goes by the verdict on the room, and with room enough the sheet takes the place of the first bytes.
 use Prim.Native.Nat.{ℕ}
 use mathlib.Core.Path.{sym, ap, ◌∙◌}
-use mathlib.Core.List.{List, ◌++◌}
+use mathlib.Core.List.{◌++◌}
 use lib.ListN.{length, drop}
-use lib.Seq.{take-length}
+use native.Mathlib.Nat.{zero-add}
 use Rattle.street.specs.Checks.{written}
 use Rattle.street.proofs.CheckLaws.{room_enough}
 use Rattle.writer.specs.Writing.{wrote_or}
@@ -18,13 +18,20 @@ pub returns-in-Refused : goal.returns-in-Refused
 returns-in-Refused c =
     let a = c.args in
     let refused = sym c.room-verdict.ensures ∙ c.in-Refused.is in
-    (sym (ap (λ v. wrote_or v (length a.sheet.now)) refused), sym (ap (λ v. written v a.sheet.now a.bytes.now) refused))
+    record {
+      reply = sym (ap (λ v. wrote_or v (length a.sheet.now)) refused);
+      after = sym (ap (λ v. written v a.sheet.now a.bytes.now) refused);
+    }
 
 pub returns-in-Passed : goal.returns-in-Passed
 returns-in-Passed c =
     let a = c.args in
     let passed = sym c.room-verdict.ensures ∙ c.in-Passed.is in
-    let whole = ap (λ (xs : List ℕ). xs ++ drop (length a.sheet.now) a.bytes.now) (take-length a.sheet.now) in (
-      ap writing.Wrote c.copy.ensures.0 ∙ sym (ap (λ v. wrote_or v (length a.sheet.now)) passed),
-      c.copy.ensures.1 ∙ whole ∙ sym (ap (λ v. written v a.sheet.now a.bytes.now) passed),
-    )
+    let start = zero-add (length a.sheet.now) in
+    record {
+      reply = ap writing.Wrote (c.copy.ensures.next ∙ start) ∙ sym (ap (λ v. wrote_or v (length a.sheet.now)) passed);
+      after =
+          c.copy.ensures.after
+          ∙ ap (λ (n : ℕ). a.sheet.now ++ drop n a.bytes.now) start
+          ∙ sym (ap (λ v. written v a.sheet.now a.bytes.now) passed);
+    }
