@@ -8,4 +8,4 @@ returns c =
     let a = c.args in
     let l = typed a.cycle a.reds.now a.distances.now a.outbound.now a.inbound.now in
     let called = c.plan_for-answer in
-    carries_all a.outbound-volume a.inbound-volume a.headway l a.offsets.now _ called.result c.with_volumes.result called.ensures c.with_volumes.ensures.0 c.with_volumes.ensures.1
+    carries_all a.outbound_volume a.inbound_volume a.headway l a.offsets.now _ called.result c.with_volumes.result called.ensures c.with_volumes.ensures.0 c.with_volumes.ensures.1

@@ -4,9 +4,8 @@ use Rattle.plans.proofs.with_volumes.Goals as goal
 
 pub returns-in-Planned : goal.returns-in-Planned
 returns-in-Planned c =
-    let told = c.answer-1.given in
     let a = c.args in
-    largest_planned a.cycle a.headway c.largest.result c.largest-in-Planned.result a.answer told.0.0 told.1 c.largest.ensures c.largest-in-Planned.ensures
+    largest_planned a.cycle a.headway c.largest.result c.largest-in-Planned.result a.answer c.in-Planned.p c.in-Planned.is c.largest.ensures c.largest-in-Planned.ensures
 
 pub returns-in-Refused : goal.returns-in-Refused
 returns-in-Refused c =
