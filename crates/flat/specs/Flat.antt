@@ -34,7 +34,7 @@ plan_fields n =
     }
 
 abbrev pub flat_plan : Answer → CorbatanPlan
-flat_plan a = plan_fields (plans.planNumbers a)
+flat_plan a = plan_fields (plans.plan_numbers a)
 
 -- the same, and the largest volumes beside it (02, 2026-03)
 abbrev pub flat_carried : Carried → CorbatanVolumes
@@ -53,7 +53,7 @@ measure_fields n =
     }
 
 abbrev pub flat_measure : Measurement → CorbatanMeasure
-flat_measure a = measure_fields (bands.bandNumbers a)
+flat_measure a = measure_fields (bands.band_numbers a)
 
 -- a sheet's numbers beside a code and a place
 abbrev pub flat_sheet : ℕ → ℕ → Sheet → CorbatanSheet
@@ -78,7 +78,7 @@ abbrev pub writing_fields : writer.WritingNumbers → CorbatanWriting
 writing_fields n = record { code = n.code; place = n.place; count = n.count }
 
 abbrev pub flat_writing : Writing → CorbatanWriting
-flat_writing a = writing_fields (writer.writingNumbers a)
+flat_writing a = writing_fields (writer.writing_numbers a)
 
 abbrev pub flat_text : Printed → CorbatanText
 flat_text t = record { count = t.count; bytes = t.bytes }

@@ -82,5 +82,5 @@ MeasuredElsewhere =
     let f : List ℕ = 15 ∷ 15 ∷ [] in
     (request_answer (Outbound 16) elsewhere 2 ≡ plan 1 (pos 11) 16 6 0 17 13)
     × (request_after (Outbound 16) elsewhere (7 ∷ 7 ∷ []) ≡ f)
-    × (bands.bandNumbers (bands.measurementOf elsewhere f) ≡ record { code = 0; place = 0; outbound = record { width = 16; start = 17 }; inbound = record { width = 6; start = 7 } })
+    × (bands.band_numbers (bands.measurement_of elsewhere f) ≡ record { code = 0; place = 0; outbound = record { width = 16; start = 17 }; inbound = record { width = 6; start = 7 } })
     × (into_band 1 (inbound_way (timed elsewhere) (λ j. get_or f j 0)) 0 13 6 7 ≡ 10)

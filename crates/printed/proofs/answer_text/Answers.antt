@@ -32,4 +32,4 @@ pub returns : goal.returns
 returns c =
     let a = c.args in
     let lent = c.lent-n.ensures in
-    record { reply = c.text.ensures ∙ ap (λ (n : ℕ). printed_of (text_of a.answer (take n a.t3))) lent }
+    record { reply = c.text.ensures ∙ ap (λ (n : ℕ). printed_of (text_of a.answer (take n a.offsets))) lent }

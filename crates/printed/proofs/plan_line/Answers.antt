@@ -35,80 +35,34 @@ items p = five_items (decimal p.reference) (signed_decimal p.b) (decimal p.outbo
 abbrev size : Plan → ℕ
 size p = length (item p.reference) + length (b_item p.b) + length (item p.outbound) + length (item p.inbound) + length (last p)
 
+room : (p : Plan) (at long : ℕ) → at + length (plan_line p) ≤ long → at + size p ≤ long
+room p at long fits =
+    let sizes = five_sizes (item p.reference) (b_item p.b) (item p.outbound) (item p.inbound) (last p) in
+    omega (arith, ap length (items p))
+
+-- B, read off its bits, is B again
+b_again : (b : ℤ) → SFits w32 b → b_item (to_z w32 (of_z w32 b)) ≡ b_item b
+b_again b fits = ap b_item (to_z-of_z w32 b fits)
+
 pub write_ended-c-requires : goal.write_ended-c-requires
-write_ended-c-requires c =
-    let room : c.args.at + size c.args.plan ≤ length c.args.bytes.now = 
-        let p = c.args.plan in
-        let sizes = five_sizes (item p.reference) (b_item p.b) (item p.outbound) (item p.inbound) (last p) in
-        omega (arith, ap length (items p), c.requires) in
-    omega (arith, room)
+write_ended-c-requires c = omega (arith, room c.args.plan c.args.at (length c.args.bytes.now) c.requires)
 
 pub write_signed-b-requires : goal.write_signed-b-requires
-write_signed-b-requires c =
-    let room : c.args.at + size c.args.plan ≤ length c.args.bytes.now = 
-        let p = c.args.plan in
-        let sizes = five_sizes (item p.reference) (b_item p.b) (item p.outbound) (item p.inbound) (last p) in
-        omega (arith, ap length (items p), c.requires) in
-    let b_again : b_item (to_z w32 (of_z w32 c.args.plan.b)) ≡ b_item c.args.plan.b = 
-        ap b_item (to_z-of_z w32 c.args.plan.b fits)
-      where
-        fits : SFits w32 c.args.plan.b
-        fits = search rules in
-    omega (arith, room, ap length b_again, c.write_ended-c)
+write_signed-b-requires c = omega (arith, room c.args.plan c.args.at (length c.args.bytes.now) c.requires, ap length (b_again c.args.plan.b (search rules)), c.write_ended-c)
 
 pub write_ended-outbound-requires : goal.write_ended-outbound-requires
-write_ended-outbound-requires c =
-    let room : c.args.at + size c.args.plan ≤ length c.args.bytes.now = 
-        let p = c.args.plan in
-        let sizes = five_sizes (item p.reference) (b_item p.b) (item p.outbound) (item p.inbound) (last p) in
-        omega (arith, ap length (items p), c.requires) in
-    let b_again : b_item (to_z w32 (of_z w32 c.args.plan.b)) ≡ b_item c.args.plan.b = 
-        ap b_item (to_z-of_z w32 c.args.plan.b fits)
-      where
-        fits : SFits w32 c.args.plan.b
-        fits = search rules in
-    omega (arith, room, ap length b_again, c.write_ended-c, c.write_signed-b)
+write_ended-outbound-requires c = omega (arith, room c.args.plan c.args.at (length c.args.bytes.now) c.requires, ap length (b_again c.args.plan.b (search rules)), c.write_ended-c, c.write_signed-b)
 
 pub write_ended-inbound-requires : goal.write_ended-inbound-requires
 write_ended-inbound-requires c =
-    let room : c.args.at + size c.args.plan ≤ length c.args.bytes.now = 
-        let p = c.args.plan in
-        let sizes = five_sizes (item p.reference) (b_item p.b) (item p.outbound) (item p.inbound) (last p) in
-        omega (arith, ap length (items p), c.requires) in
-    let b_again : b_item (to_z w32 (of_z w32 c.args.plan.b)) ≡ b_item c.args.plan.b = 
-        ap b_item (to_z-of_z w32 c.args.plan.b fits)
-      where
-        fits : SFits w32 c.args.plan.b
-        fits = search rules in
-    omega (arith, room, ap length b_again, c.write_ended-c, c.write_signed-b, c.write_ended-outbound)
+    omega (arith, room c.args.plan c.args.at (length c.args.bytes.now) c.requires, ap length (b_again c.args.plan.b (search rules)), c.write_ended-c, c.write_signed-b, c.write_ended-outbound)
 
 pub write_ended-requires : goal.write_ended-requires
 write_ended-requires c =
-    let room : c.args.at + size c.args.plan ≤ length c.args.bytes.now = 
-        let p = c.args.plan in
-        let sizes = five_sizes (item p.reference) (b_item p.b) (item p.outbound) (item p.inbound) (last p) in
-        omega (arith, ap length (items p), c.requires) in
-    let b_again : b_item (to_z w32 (of_z w32 c.args.plan.b)) ≡ b_item c.args.plan.b = 
-        ap b_item (to_z-of_z w32 c.args.plan.b fits)
-      where
-        fits : SFits w32 c.args.plan.b
-        fits = search rules in
-    let b = ap length b_again in
-    omega (arith, room, c.write_ended-c, c.write_signed-b, c.write_ended-outbound, c.write_ended-inbound)
+    omega (arith, room c.args.plan c.args.at (length c.args.bytes.now) c.requires, ap length (b_again c.args.plan.b (search rules)), c.write_ended-c, c.write_signed-b, c.write_ended-outbound, c.write_ended-inbound)
 
 pub returns : goal.returns
 returns c =
-    let room : c.args.at + size c.args.plan ≤ length c.args.bytes.now = 
-        let p = c.args.plan in
-        let sizes = five_sizes (item p.reference) (b_item p.b) (item p.outbound) (item p.inbound) (last p) in
-        omega (arith, ap length (items p), c.requires) in
-    let b_again : b_item (to_z w32 (of_z w32 c.args.plan.b)) ≡ b_item c.args.plan.b = 
-        ap b_item (to_z-of_z w32 c.args.plan.b fits)
-      where
-        fits : SFits w32 c.args.plan.b
-        fits = search rules in
-    let outbound_item : let signed = c.write_signed-b in Writes signed.result (item c.args.plan.outbound) signed.last.0 c.write_ended-outbound.new.bytes c.write_ended-outbound.result = c.write_ended-outbound.ensures in
-    let within : c.args.at ≤ length c.args.bytes.now = omega (arith, room) in
-    let b = writes_as b_again c.write_signed-b.ensures in
-    let widths = writes_twice within (writes_twice within (writes_twice within c.write_ended-c.ensures b) outbound_item) c.write_ended-inbound.ensures in
-    writes_as (items c.args.plan) (writes_twice within widths c.write_ended.ensures)
+    let within : c.args.at ≤ length c.args.bytes.now = omega (arith, room c.args.plan c.args.at (length c.args.bytes.now) c.requires) in
+    let outbound = writes_twice within (writes_twice within c.write_ended-c.ensures (writes_as (b_again c.args.plan.b (search rules)) c.write_signed-b.ensures)) c.write_ended-outbound.ensures in
+    writes_as (items c.args.plan) (writes_twice within (writes_twice within outbound c.write_ended-inbound.ensures) c.write_ended.ensures)

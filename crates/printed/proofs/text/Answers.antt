@@ -19,8 +19,7 @@ whole {t} w =
     λ i. record { bytes = bytes i; count = count i }
 
 pub answer_lines-count-requires : goal.answer_lines-count-requires
-answer_lines-count-requires c =
-    text-size c.args.answer c.args.offsets.now c.requires (λ i. (c.shared_slice_known-1.given i).fits)
+answer_lines-count-requires c = text-size c.args.answer c.args.offsets.now c.requires (λ i. (c.type_inv.offsets i).fits)
 
 pub returns : goal.returns
 returns c = whole c.answer_lines-count.ensures

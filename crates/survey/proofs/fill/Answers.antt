@@ -27,17 +27,13 @@ returns-in_default c =
 
 pub overflow_mul-distances : goal.overflow_mul-distances
 overflow_mul-distances c =
-    let started : let s = c.start-1.given.0 in Good_row (in_rows c.args.rows) 0 s.0 s.1.0 s.1.1.0 =
-    let s = c.start-1.given in
-    first_good (in_rows c.args.rows) s.0.0 s.0.1.0 s.0.1.1.0 (sym c.first.ensures ∙ s.1) in
+    let started = first_good (in_rows c.args.rows) c.in-Good.start c.in-Good.none c.in-Good.nothing (sym c.first.ensures ∙ c.in-Good.is) in
     omega (arith, started.near)
 
 pub loop-link-init : goal.loop-link-init
 unfolding list_below
 loop-link-init c =
-    let started : let s = c.start-1.given.0 in Good_row (in_rows c.args.rows) 0 s.0 s.1.0 s.1.1.0 =
-    let s = c.start-1.given in
-    first_good (in_rows c.args.rows) s.0.0 s.0.1.0 s.0.1.1.0 (sym c.first.ensures ∙ s.1) in
+    let started = first_good (in_rows c.args.rows) c.in-Good.start c.in-Good.none c.in-Good.nothing (sym c.first.ensures ∙ c.in-Good.is) in
     let row = in_rows c.args.rows in
     let g = started in (
       search rules,
@@ -62,30 +58,26 @@ returns-in_default-judge c =
 
 pub overflow_mul-distances-in-loop-link : goal.overflow_mul-distances-in-loop-link
 overflow_mul-distances-in-loop-link c =
-    let followed : let s = c.distance-1.given.0 in Good_row (in_rows c.args.rows) (c.loop-link.link + 1) s.0 s.1.0 s.1.1.0 =
-    let s = c.distance-1.given in
-    following_good (in_rows c.args.rows) c.loop-link.link c.loop-link.before s.0.0 s.0.1.0 s.0.1.1.0 c.loop-link.invariant.1 (sym c.judge.ensures ∙ s.1) in
+    let go = c.in-Good-judge in
+    let followed = following_good (in_rows c.args.rows) c.loop-link.link c.loop-link.before go.distance go.out go.back c.loop-link.invariant.1 (sym c.judge.ensures ∙ go.is) in
     omega (arith, followed.near)
 
 pub overflow_mul-outbound : goal.overflow_mul-outbound
 overflow_mul-outbound c =
-    let followed : let s = c.distance-1.given.0 in Good_row (in_rows c.args.rows) (c.loop-link.link + 1) s.0 s.1.0 s.1.1.0 =
-    let s = c.distance-1.given in
-    following_good (in_rows c.args.rows) c.loop-link.link c.loop-link.before s.0.0 s.0.1.0 s.0.1.1.0 c.loop-link.invariant.1 (sym c.judge.ensures ∙ s.1) in
+    let go = c.in-Good-judge in
+    let followed = following_good (in_rows c.args.rows) c.loop-link.link c.loop-link.before go.distance go.out go.back c.loop-link.invariant.1 (sym c.judge.ensures ∙ go.is) in
     omega (arith, followed.out, reading_small (in_rows c.args.rows (c.loop-link.link + 1)).outbound)
 
 pub overflow_mul-inbound : goal.overflow_mul-inbound
 overflow_mul-inbound c =
-    let followed : let s = c.distance-1.given.0 in Good_row (in_rows c.args.rows) (c.loop-link.link + 1) s.0 s.1.0 s.1.1.0 =
-    let s = c.distance-1.given in
-    following_good (in_rows c.args.rows) c.loop-link.link c.loop-link.before s.0.0 s.0.1.0 s.0.1.1.0 c.loop-link.invariant.1 (sym c.judge.ensures ∙ s.1) in
+    let go = c.in-Good-judge in
+    let followed = following_good (in_rows c.args.rows) c.loop-link.link c.loop-link.before go.distance go.out go.back c.loop-link.invariant.1 (sym c.judge.ensures ∙ go.is) in
     omega (arith, followed.back, reading_small (in_rows c.args.rows (c.loop-link.link + 1)).inbound)
 
 pub loop-link-preserved : goal.loop-link-preserved
 loop-link-preserved c =
-    let followed : let s = c.distance-1.given.0 in Good_row (in_rows c.args.rows) (c.loop-link.link + 1) s.0 s.1.0 s.1.1.0 =
-    let s = c.distance-1.given in
-    following_good (in_rows c.args.rows) c.loop-link.link c.loop-link.before s.0.0 s.0.1.0 s.0.1.1.0 c.loop-link.invariant.1 (sym c.judge.ensures ∙ s.1) in
+    let go = c.in-Good-judge in
+    let followed = following_good (in_rows c.args.rows) c.loop-link.link c.loop-link.before go.distance go.out go.back c.loop-link.invariant.1 (sym c.judge.ensures ∙ go.is) in
     let row = in_rows c.args.rows in
     let g = followed in
     let room : c.loop-link.link + 1 < max_signals = omega arith in (

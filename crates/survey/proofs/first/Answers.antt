@@ -9,15 +9,15 @@ returns-in_default c = sym (ap standing (sym c.judge.ensures ∙ c.in_default.is
 
 pub returns-then-outbound-gt0 : goal.returns-then-outbound-gt0
 returns-then-outbound-gt0 c =
-    let g = c.distance-1.given.0 in
-    sym (ap standing (sym c.judge.ensures ∙ c.in-Good.is) ∙ driven_out g.0 g.1.0 g.1.1.0 c.if-outbound-gt0.true)
+    let g = c.in-Good in
+    sym (ap standing (sym c.judge.ensures ∙ c.in-Good.is) ∙ driven_out g.distance g.outbound g.inbound c.if-outbound-gt0.true)
 
 pub returns-then-inbound-gt0 : goal.returns-then-inbound-gt0
 returns-then-inbound-gt0 c =
-    let g = c.distance-1.given.0 in
-    sym (ap standing (sym c.judge.ensures ∙ c.in-Good.is) ∙ driven_back g.0 g.1.0 g.1.1.0 c.if-outbound-gt0.false c.if-inbound-gt0.true)
+    let g = c.in-Good in
+    sym (ap standing (sym c.judge.ensures ∙ c.in-Good.is) ∙ driven_back g.distance g.outbound g.inbound c.if-outbound-gt0.false c.if-inbound-gt0.true)
 
 pub returns : goal.returns
 returns c =
-    let g = c.distance-1.given.0 in
-    sym (ap standing (sym c.judge.ensures ∙ c.in-Good.is) ∙ not_driven g.0 g.1.0 g.1.1.0 c.if-outbound-gt0.false c.if-inbound-gt0.false)
+    let g = c.in-Good in
+    sym (ap standing (sym c.judge.ensures ∙ c.in-Good.is) ∙ not_driven g.distance g.outbound g.inbound c.if-outbound-gt0.false c.if-inbound-gt0.false)

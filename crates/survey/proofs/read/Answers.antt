@@ -29,8 +29,8 @@ pub returns-in-Passed : goal.returns-in-Passed
 returns-in-Passed c =
     let a = c.args in
     let row = in_rows a.rows in
-    let l = c.fill-verdict.new.1.1 in
+    let l = c.fill-verdict.new in
     let went = c.in-Passed.is in
-    ap (λ (s : Sheet). record { verdict = Passed; sheet = s }) (typed_sheet a.cycle a.count row l.0 l.1.0 l.1.1.0 l.1.1.1.0 (c.fill-verdict.ensures.columns went))
+    ap (λ (s : Sheet). record { verdict = Passed; sheet = s }) (typed_sheet a.cycle a.count row l.reds l.distances l.outbound l.inbound (c.fill-verdict.ensures.columns went))
     ∙ reads_passed (survey_checks a.count row) (typed_rows a.cycle a.count row)
     (count_passes a.count row (sym c.row_count-counted.ensures ∙ c.in_default.is) ∙ sym c.fill-verdict.ensures.verdict ∙ went)

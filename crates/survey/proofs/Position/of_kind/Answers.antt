@@ -1,5 +1,6 @@
 -- `survey::Position::of_kind` meets its contract: each arm is the definition's case, and 0 / 0 is the NaN.
 use mathlib.Core.Path.{sym}
+use borrow.Author.Rules.{rules}
 use lib.Ieee.{div, of_bits}
 use Rattle.survey.proofs.RowLaws.{chainage_kind, gap_kind, other_kind}
 use Rattle.survey.proofs.Position.of_kind.Goals as goal
@@ -12,4 +13,4 @@ returns-in-1 c = sym (gap_kind _ _ c.in-1.is)
 
 pub returns-in_default : goal.returns-in_default
 unfolding div of_bits
-returns-in_default c = sym (other_kind _ _ c.in_default.rest.0.1 c.in_default.rest.1)
+returns-in_default c = sym (other_kind c.args.kind c.args.x (search rules) (search rules))
