@@ -35,7 +35,7 @@ measure_unique l offsets r r' one other = one ∙ sym other
 
 pub read_unique : (bytes : List ℕ) (r r' : CorbatanSheet) → FlatReads bytes r → FlatReads bytes r' → r ≡ r'
 read_unique bytes r r' one other =
-    one.reply ∙ ap flat_reading (sheet.read-unique bytes one.reading other.reading one.reads other.reads) ∙ sym other.reply
+    one.reply ∙ ap flat_reading (sheet.read_unique bytes one.reading other.reading one.reads other.reads) ∙ sym other.reply
 
 pub survey_unique : (cycle : ℕ) (kinds : List ℕ) (positions outbound inbound : List Float) (reds : List ℕ) (r r' : CorbatanSheet) → r ≡ flat_reading (lists_reading cycle kinds positions outbound inbound reds) → r' ≡ flat_reading (lists_reading cycle kinds positions outbound inbound reds) → r ≡ r'
 survey_unique cycle kinds positions outbound inbound reds r r' one other = one ∙ sym other

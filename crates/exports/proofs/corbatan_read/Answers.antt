@@ -7,9 +7,9 @@ use Rattle.exports.proofs.corbatan_read.Goals as goal
 pub returns : goal.returns
 returns c =
     let f = c.fill-head in
-    let l = f.new.1 in
+    let l = f.new in
     let n = c.numbered-numbers in
-    let reading = assembled f.result l.0 l.1.0 l.1.1.0 l.1.1.1.0 in
+    let reading = assembled f.result l.reds l.distances l.outbound l.inbound in
     record {
       reading = reading;
       reads = f.ensures;
