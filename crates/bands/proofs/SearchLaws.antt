@@ -7,9 +7,9 @@ use lib.IntN.{pos, ◌-ℤ◌}
 use lib.ListN.{get_or}
 use Rattle.circle.specs.Man.{man}
 use Rattle.circle.specs.Method.{Timed, halves, red_start}
-use Rattle.circle.specs.Bands.{Way, width}
+use Rattle.circle.specs.Bands.{Way}
 use Rattle.circle.proofs.Numbers.{man_lt, man_is, man_turns}
-use Rattle.circle.proofs.Stretches.{past, Alike, width_alike, start_alike}
+use Rattle.circle.proofs.Stretches.{Alike, width_alike, start_alike}
 use Rattle.street.specs.Steps.{Sound}
 use Rattle.stretches.specs.Stretches.{band_of}
 use Rattle.stretches.specs.Steps.{Fitting}

@@ -2,7 +2,7 @@
 use Rattle.std.specs.Prelude.{ℕ, ◌*◌, Bool, List, [], ◌∷◌, ◌++◌, length, get_or, leb, eqb}
 use Rattle.circle.specs.Over.{first_below}
 use Rattle.circle.specs.Method.{Timed}
-use Rattle.circle.specs.Bands.{width, outbound_way, inbound_way}
+use Rattle.circle.specs.Bands.{outbound_way, inbound_way}
 use Rattle.street.specs.Lists.{Lists, signals}
 use Rattle.street.specs.Codes.{code_of, place_of}
 use Rattle.street.specs.Checks.{unless, fault_at, first_fault, cycle_check, counts, number_checks}

@@ -1,7 +1,6 @@
 -- How what each step of the reader found is what the whole sheet comes to. The steps follow the definition: the length, the first section, the signals, the links,
 -- the end of the bytes; a fault of one is the answer, and else the definition goes on with the columns that the arrays hold. Assumes nothing.
 use Prim.Native.Nat.{ℕ, ◌-◌, ◌≤◌, ◌<◌}
-use mathlib.Core.Logic.{◌⊎◌}
 use mathlib.Core.Path.{◌≡◌, refl, sym, ap, ◌∙◌}
 use mathlib.Core.List.{List}
 use lib.ListN.{length, drop, drop_of_length-le}

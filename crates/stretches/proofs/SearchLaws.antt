@@ -12,7 +12,7 @@ use lib.ListN.{get_or}
 use lib.Dec.{ltb}
 use borrow.Author.Tests.{lt-ltb, le-ltb}
 use Rattle.circle.specs.Man.{man}
-use Rattle.circle.specs.Bands.{Way, width}
+use Rattle.circle.specs.Bands.{Way}
 use Rattle.circle.proofs.Numbers.{man_is, man_turns, min_below, min_more}
 use Rattle.circle.proofs.Stretches.{since, Proper, longest, left, end_at, since_end, from, Best, NoWorse, best_none, best_more, best_passed, best_band}
 use Rattle.stretches.specs.declared.Band.{Band}

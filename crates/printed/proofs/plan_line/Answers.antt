@@ -11,7 +11,6 @@ use mir.Val.{SFits, to_z, of_z}
 use mir.ValLaws.{to_z-of_z}
 use borrow.Author.Rules.{rules}
 use Rattle.decimal.specs.Decimal.{decimal, signed_decimal}
-use Rattle.decimal.specs.Steps.{Writes}
 use Rattle.decimal.proofs.Writing.{writes_twice, writes_as}
 use Rattle.plans.specs.declared.Plan.{Plan}
 use Rattle.printed.specs.Text.{plan_line}

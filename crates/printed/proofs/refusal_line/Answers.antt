@@ -8,7 +8,6 @@ use lib.ListN.{length}
 use Rattle.street.specs.declared.Refusal.{Refusal}
 use Rattle.street.specs.Codes.{code_number}
 use Rattle.decimal.specs.Decimal.{decimal}
-use Rattle.decimal.specs.Steps.{Writes}
 use Rattle.decimal.proofs.Writing.{writes_twice, writes_as}
 use Rattle.printed.specs.Text.{refused_word, refusal_line}
 use Rattle.printed.proofs.Lines.{three_items, three_sizes}

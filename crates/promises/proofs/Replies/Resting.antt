@@ -4,7 +4,7 @@ use mathlib.Core.Path.{◌≡◌, refl, sym, ap, ◌∙◌}
 use native.Mathlib.Omega.{arith}
 use native.Mathlib.Decide.{ℕ_discrete}
 use lib.ListN.{length, get_or}
-use Rattle.circle.specs.Method.{Timed, halves, reference}
+use Rattle.circle.specs.Method.{Timed, halves}
 use Rattle.circle.specs.Moved.{other_width}
 use Rattle.circle.specs.Bands.{outbound_way, inbound_way}
 use Rattle.circle.proofs.Formulas.{Fit, asked, resting_B, resting_asked, resting_other, resting_range, resting_reference, resting_width}

@@ -1,4 +1,4 @@
-use Prim.Native.Nat.{ℕ, ◌+◌, ◌-◌, ◌<◌}
+use Prim.Native.Nat.{ℕ, ◌+◌, ◌<◌}
 use mathlib.Core.Path.{subst, subst₂, ◌≡◌, refl, sym, ap, ◌∙◌}
 use mathlib.Core.List.{[]}
 use native.Mathlib.Omega.{arith}
@@ -60,7 +60,7 @@ loop-k-preserved c =
           let here =
           candidate_is a.cycle count a.reds.now a.x.now out back k (get_or rows.widths k []) new.result ok anchors (omega arith) (rows.invariant.3 k (omega arith)) new.ensures in
           elim c.if-most-candidate.branch [
-            then-most-candidate w ↦ subst₂ (Leading g (k + 1)) (sym w.signal-is) (sym w.most-is) (leads_new g k loop.signal loop.most new.result lead w.if-most-candidate.true here)
+            | then-most-candidate w ↦ subst₂ (Leading g (k + 1)) (sym w.signal-is) (sym w.most-is) (leads_new g k loop.signal loop.most new.result lead w.if-most-candidate.true here)
             | else-most-candidate w ↦ subst₂ (Leading g (k + 1)) (sym w.signal-is) (sym w.most-is) (leads_still g k loop.signal loop.most new.result lead w.if-most-candidate.false here)
           ]
           ),

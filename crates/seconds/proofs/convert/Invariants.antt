@@ -1,5 +1,5 @@
 -- `seconds::convert` meets its contract. The loop's invariant: the entries before `j` are seconds, and the list is as it was from there on.
-use Prim.Native.Nat.{ℕ, ◌+◌, ◌-◌, ◌≤◌}
+use Prim.Native.Nat.{ℕ, ◌-◌, ◌≤◌}
 use mathlib.Core.Path.{◌≡◌}
 use mathlib.Core.List.{List, ◌++◌}
 use lib.ListN.{length, drop, get_or}

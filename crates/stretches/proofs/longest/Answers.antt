@@ -1,4 +1,4 @@
-use Prim.Native.Nat.{ℕ, ◌-◌, ◌<◌}
+use Prim.Native.Nat.{ℕ, ◌<◌}
 use mathlib.Core.Path.{◌≡◌, refl, sym, ap, ◌∙◌}
 use native.Mathlib.Omega.{arith}
 use lib.ListN.{get_or}
@@ -30,7 +30,7 @@ loop-j-preserved c =
     let here = c.left-room.ensures ∙ left-seen a.h a.n red a.ends.now c.requires.2 a.x j lj in (
       omega arith,
       elim c.if-room-least.branch [
-        then-room-least w ↦ w.least-is ∙ least_lower a.h j leaves _ _ so_far here w.if-room-least.true
+        | then-room-least w ↦ w.least-is ∙ least_lower a.h j leaves _ _ so_far here w.if-room-least.true
         | else-room-least w ↦ w.least-is ∙ least_still a.h j leaves _ _ so_far here w.if-room-least.false
       ],
     )

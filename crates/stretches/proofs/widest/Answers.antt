@@ -1,4 +1,4 @@
-use Prim.Native.Nat.{ℕ, ◌+◌, ◌-◌}
+use Prim.Native.Nat.{ℕ, ◌+◌}
 use mathlib.Core.List.{List}
 use mathlib.Core.Path.{subst, ◌≡◌, sym, ap, ◌∙◌}
 use native.Mathlib.Omega.{arith}
@@ -41,7 +41,7 @@ loop-i-preserved c =
     λ b e. subst (BestBand (seen_by h n (red_of c.args.reds.now) ends) (c.loop-i.i + 1)) (sym e) in (
       omega arith,
       elim c.if-reds-i-gt0.branch [
-        then-reds-i-gt0 w ↦
+        | then-reds-i-gt0 w ↦
             kept w.wider-best.result w.best-is
             (more-seen h n (red_of c.args.reds.now) ends fits c.loop-i.i w.longest-width.result c.loop-i.best w.wider-best.result (omega arith) so_far w.longest-width.ensures w.wider-best.ensures)
         | else-reds-i-gt0 w ↦ kept c.loop-i.best w.best-is (passed_seen h n (red_of c.args.reds.now) ends fits c.loop-i.i c.loop-i.best so_far w.if-reds-i-gt0.false)

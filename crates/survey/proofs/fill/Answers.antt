@@ -12,7 +12,7 @@ use Rattle.street.specs.declared.Code.TheVariants.{Survey}
 use Rattle.survey.specs.Rows.{running, bad_row}
 use Rattle.survey.specs.Typing.{thousandths, in_rows}
 use Rattle.survey.specs.Steps.{outbound_speed, inbound_speed}
-use Rattle.survey.proofs.RowLaws.{fault_at_lem, fault_nowhere, not_both, Good_row, reading_small, first_good, first_bad, following_good, following_bad}
+use Rattle.survey.proofs.RowLaws.{fault_at_lem, fault_nowhere, not_both, reading_small, first_good, first_bad, following_good, following_bad}
 use Rattle.survey.proofs.fill.Goals as goal
 
 pub returns-in_default : goal.returns-in_default

@@ -1,6 +1,6 @@
 -- `bands::ends::ends` meets its contract. The loop's invariant: the array's entries before j are the red ends, and the others are as they were. A turn adds the one at j, whose
 -- remainder and lag are the callees'. The measure is the number of signals left.
-use Prim.Native.Nat.{◌+◌, ◌-◌, ◌≤◌}
+use Prim.Native.Nat.{◌-◌, ◌≤◌}
 use mathlib.Core.Path.{◌≡◌}
 use mathlib.Core.List.{◌++◌}
 use lib.ListN.{length, drop}
