@@ -1,3 +1,4 @@
+-- `cases::case_end` meets its contract. The loop's invariant: `at` lies from the start to the end. Assumes nothing.
 use Rattle.std.proofs.Common.{◌-◌, ◌≤◌, length}
 use Rattle.cases.proofs.case_end.Given as goal
 

@@ -1,3 +1,4 @@
+-- `cases::read_full` meets its contract. The loop's invariant: what was read lies within the list. The measure is the room that is left. Assumes nothing.
 use Rattle.std.proofs.Common.{◌-◌, ◌≤◌, length}
 use Rattle.cases.proofs.read_full.Given as goal
 

@@ -1,3 +1,4 @@
+-- `cases::run` meets its contract: each turn starts past the last case's end. Assumes nothing.
 use Rattle.std.proofs.Common.{length, ◌-◌}
 use Rattle.cases.proofs.run.Given as goal
 
