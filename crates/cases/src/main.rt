@@ -11,6 +11,7 @@ use lines::{Call, Line};
 use plans::{Answer, Request};
 use printed::Printed;
 use sheet::Sheet;
+use std::io::{self, Read};
 use street::{Refusal, Street, Verdict};
 use survey::Row;
 use writer::Writing;
@@ -25,42 +26,60 @@ enum Unit {
     Seconds,
 }
 
-// Tells on standard error, where the program says nothing else, that a part of a reply was lost: a program of the kit has no exit status
-// of its own.
-fn noted(written: bool) {
-    if !written {
-        io::write_all(2, b"cases: a reply could not be written\n");
+// Reads until the list is full, the input ends or a read fails, and answers how many bytes stand at the list's start: a failed read counts
+// as the end of the input.
+fn read_full(input: &mut impl Read, list: &mut [u8]) -> usize
+    ensures { result ≤ length list.new }
+{
+    let mut done = 0;
+    while done < list.len() {
+        match input.read(&mut list[done..]) {
+            Ok(0) => return done,
+            Ok(count) => done += count,
+            Err(_) => return done,
+        }
+    }
+    done
+}
+
+// Tells on standard error, where the program says nothing else, that a part of a reply was lost.
+fn noted(rt: &impl Eprint, written: io::Result<()>) {
+    if written.is_err() {
+        let _ = eprintln!(rt; "cases: a reply could not be written");
     }
 }
 
 // Writes bytes of a reply.
-fn put(bytes: &[u8]) {
-    noted(io::write_all(1, bytes));
+fn put(rt: &(impl Print + Eprint), bytes: &[u8]) {
+    noted(rt, rt.write_all(bytes));
 }
 
 // Writes a text, which lies within its buffer.
-fn show(text: Printed)
+fn show(rt: &(impl Print + Eprint), text: Printed)
     requires { text.count ≤ length text.bytes }
 {
     let bytes = text.bytes;
     let count = text.count;
-    put(&bytes[..count]);
+    put(rt, &bytes[..count]);
 }
 
-fn show_refusal(f: Refusal) {
-    show(printed::answer_text(Answer::Refused(f), 0, [0u32; Street::MAX_SIGNALS]));
+fn show_refusal(rt: &(impl Print + Eprint), f: Refusal) {
+    show(
+        rt,
+        printed::answer_text(Answer::Refused(f), 0, [0u32; Street::MAX_SIGNALS]),
+    );
 }
 
 // Writes two numbers with a space between them and an end behind.
-fn show_pair(first: u32, second: u32, end: &[u8]) {
-    noted(io::print_decimal(1, first as u64));
-    put(b" ");
-    noted(io::print_decimal(1, second as u64));
-    put(end);
+fn show_pair(rt: &(impl Print + Eprint), first: u32, second: u32, end: &[u8]) {
+    noted(rt, rt.print(first));
+    put(rt, b" ");
+    noted(rt, rt.print(second));
+    put(rt, end);
 }
 
 // The measure of some offsets on a sheet's street.
-fn measured(s: Sheet, count: usize, offsets: [u32; Line::MAX_ENTRIES])
+fn measured(rt: &(impl Print + Eprint), s: Sheet, count: usize, offsets: [u32; Line::MAX_ENTRIES])
     requires { Held s × (count ≤ max_entries) × (length offsets ≡ max_entries) }
 {
     let n = s.signals;
@@ -78,21 +97,21 @@ fn measured(s: Sheet, count: usize, offsets: [u32; Line::MAX_ENTRIES])
         &offsets[..count],
     );
     match found {
-        Measurement::Refused(f) => show_refusal(f),
+        Measurement::Refused(f) => show_refusal(rt, f),
         Measurement::Found(m) => {
             let out = m.outbound;
             let back = m.inbound;
-            show_pair(out.width, out.start, b" ");
-            show_pair(back.width, back.start, b"\n");
+            show_pair(rt, out.width, out.start, b" ");
+            show_pair(rt, back.width, back.start, b"\n");
         }
     }
 }
 
 // The line behind a plan that was asked for by volumes: the largest volumes that its widths take.
-fn show_volumes(answer: Answer, cycle: u32, headway: u32) {
+fn show_volumes(rt: &(impl Print + Eprint), answer: Answer, cycle: u32, headway: u32) {
     if let Answer::Planned(p) = answer {
         let carried = plans::with_volumes(Answer::Planned(p), cycle, headway);
-        show_pair(carried.outbound, carried.inbound, b"\n");
+        show_pair(rt, carried.outbound, carried.inbound, b"\n");
     }
 }
 
@@ -118,7 +137,13 @@ fn answered(
 }
 
 // The plan that a request asks for, on a sheet's street.
-fn planned(s: Sheet, unit: Unit, request: Request, room: usize) -> Answer
+fn planned(
+    rt: &(impl Print + Eprint),
+    s: Sheet,
+    unit: Unit,
+    request: Request,
+    room: usize,
+) -> Answer
     requires { Held s }
 {
     let n = s.signals;
@@ -139,22 +164,22 @@ fn planned(s: Sheet, unit: Unit, request: Request, room: usize) -> Answer
         &inbound[..links],
         &mut list[..k],
     );
-    show(printed::answer_text(answer, n, list));
+    show(rt, printed::answer_text(answer, n, list));
     answer
 }
 
 // A plan in halves, with the line of the largest volumes where it was asked for by volumes.
-fn planned_in_halves(s: Sheet, request: Request, room: usize)
+fn planned_in_halves(rt: &(impl Print + Eprint), s: Sheet, request: Request, room: usize)
     requires { Held s }
 {
-    let answer = planned(s, Unit::Halves, request, room);
+    let answer = planned(rt, s, Unit::Halves, request, room);
     if let Request::Volumes(out, back, headway) = request {
-        show_volumes(answer, s.cycle, headway);
+        show_volumes(rt, answer, s.cycle, headway);
     }
 }
 
 // A sheet's own bytes, written anew from its numbers into a list of some room.
-fn rewritten(s: Sheet, room: usize)
+fn rewritten(rt: &(impl Print + Eprint), s: Sheet, room: usize)
     requires { Held s × (room ≤ max_room) }
 {
     let n = s.signals;
@@ -173,37 +198,37 @@ fn rewritten(s: Sheet, room: usize)
         &mut bytes[..room],
     );
     match writing {
-        Writing::Refused(f) => show_refusal(f),
-        Writing::Wrote(count) => put(&bytes[..count]),
+        Writing::Refused(f) => show_refusal(rt, f),
+        Writing::Wrote(count) => put(rt, &bytes[..count]),
     }
 }
 
 // What is asked of a sheet's numbers, a plan in halves or in seconds, the sheet's own bytes or else a measure, or the reader's refusal.
-fn on_sheet(bytes: &[u8], call: Call, line: Line)
+fn on_sheet(rt: &(impl Print + Eprint), bytes: &[u8], call: Call, line: Line)
     requires { (line.room ≤ max_room) × (line.count ≤ max_entries) × (length line.numbers ≡ max_entries) }
 {
     let reading = sheet::read(bytes);
     let verdict = reading.verdict;
     match verdict {
-        Verdict::Refused(f) => show_refusal(f),
+        Verdict::Refused(f) => show_refusal(rt, f),
         Verdict::Passed => {
             let s = reading.sheet;
             let numbers = line.numbers;
             if let Call::Plan(request) = call {
-                planned_in_halves(s, request, line.room);
+                planned_in_halves(rt, s, request, line.room);
             } else if let Call::Seconds(request) = call {
-                planned(s, Unit::Seconds, request, line.room);
+                planned(rt, s, Unit::Seconds, request, line.room);
             } else if let Call::Write = call {
-                rewritten(s, line.room);
+                rewritten(rt, s, line.room);
             } else {
-                measured(s, line.count, numbers);
+                measured(rt, s, line.count, numbers);
             }
         }
     }
 }
 
 // The equal plan of some rows, or their refusal. Rows past the most that a street can have are counted and not kept.
-fn surveyed(bytes: &[u8], cycle: u32, room: usize) {
+fn surveyed(rt: &(impl Print + Eprint), bytes: &[u8], cycle: u32, room: usize) {
     let mut rows = [Row::of_bits(0, 0, 0, 0, 0); Street::MAX_SIGNALS];
     let mut count: usize = 0;
     let mut at: usize = 0;
@@ -211,7 +236,7 @@ fn surveyed(bytes: &[u8], cycle: u32, room: usize) {
         let line = lines::row_at(bytes, at);
         let next = line.at;
         if next <= at {
-            put(b"bad request\n");
+            put(rt, b"bad request\n");
             return;
         }
         if count < Street::MAX_SIGNALS {
@@ -229,23 +254,23 @@ fn surveyed(bytes: &[u8], cycle: u32, room: usize) {
     let mut offsets = [0u32; Street::MAX_SIGNALS];
     let k = printed::lent(room);
     let answer = survey::plan_for(Request::Equal, cycle, rows, count, &mut offsets[..k]);
-    show(printed::answer_text(answer, count, offsets));
+    show(rt, printed::answer_text(answer, count, offsets));
 }
 
 // The reply to a case, with its empty line.
-fn reply(case: &[u8]) {
+fn reply(rt: &(impl Print + Eprint), case: &[u8]) {
     let asked = lines::request(case);
     let call = asked.call;
     let line = asked.line;
     let at = line.at;
     if let Call::Bad = call {
-        put(b"bad request\n");
+        put(rt, b"bad request\n");
     } else if let Call::Survey(cycle) = call {
-        surveyed(&case[at..], cycle, line.room);
+        surveyed(rt, &case[at..], cycle, line.room);
     } else {
-        on_sheet(&case[at..], call, line);
+        on_sheet(rt, &case[at..], call, line);
     }
-    put(b"\n");
+    put(rt, b"\n");
 }
 
 // Where the case that starts at an index ends: at the next byte 0, or at the end.
@@ -263,21 +288,21 @@ fn case_end(input: &[u8], from: usize) -> usize
     at
 }
 
-fn run(input: &[u8]) {
+fn run(rt: &(impl Print + Eprint), input: &[u8]) {
     let mut at: usize = 0;
     while at < input.len() {
         let end = case_end(input, at);
-        reply(&input[at..end]);
+        reply(rt, &input[at..end]);
         at = end + 1;
     }
 }
 
-fn main() {
+fn main(rt: HostRuntime) {
     let mut input = [0u8; MAX_INPUT + 1];
-    let got = io::read_full(0, &mut input);
+    let got = read_full(&mut rt.stdin(), &mut input);
     if got > MAX_INPUT {
-        put(b"too long\n");
+        put(&rt, b"too long\n");
         return;
     }
-    run(&input[..got]);
+    run(&rt, &input[..got]);
 }
