@@ -3,6 +3,14 @@
 # check the crate there over what its check as it stands has kept, and keeps all that is said. (rt ci and rt must-fail try an
 # edit in the same way, and show one line of its refusal.)
 
+# The crates that have edits.
+crates_with_edits() {
+    local edit
+    for edit in crates/*/must-fail/*.edit; do
+        [ -f "$edit" ] && basename -- "${edit%%/must-fail/*}"
+    done | sort -u
+}
+
 # Where what is said of an edit of a crate, or of a twin, is kept.
 log_of() { # EDIT
     local file=${1#*/}
