@@ -1,9 +1,8 @@
 # shellcheck shell=bash disable=SC2154 # client/run sets what is only read here.
 # The programs of docs/CALLING.md, for client/run. The page is their one source: a block of it that has a name after its
 # language is taken out into a file of that name, each program is built and run over what ./install made, and what it
-# prints is held to the page's own text. On x86-64 that is done by the page's own commands. On another machine C and C++
-# are built as client.c is, and run by the kit's emulator, which starts no program of Rust and for which no Python is
-# there; these two are then named and not run, and of their text it is seen that it compiles.
+# prints is held to the page's own text. That is done by the page's own commands. Where these lack cc or c++, C and C++ are
+# built as client.c is; a program for which something else is missing is named and not run.
 
 blocks=(street.txt street.c c.sh pkg-config.sh street.cc cpp.sh street.rs rust.sh shared.sh street.py python.sh
     sheet.txt sheet.c sheet.sh survey.txt survey.c survey.sh seconds.txt seconds.c seconds.sh)
@@ -25,8 +24,6 @@ in_calling() (cd -- "$calling" && "$@") # COMMAND...
 # Whether the page's own commands can be run here; if not, `why` says what they lack.
 can() { # TOOL...
     local tool
-    why="this machine is $machine and not x86-64"
-    [ "$machine" = x86_64 ] || return 1
     for tool; do
         why="the command $tool is missing"
         command -v -- "$tool" >/dev/null 2>&1 || return 1
@@ -60,11 +57,11 @@ by_way() { # LANGUAGE FILE FLAG...
     fi
     : >"$calling/printed"
     make_program "$calling/$2" "$program" "${@:3}" >"$calling/said" 2>&1 &&
-        start "$program" >"$calling/printed" 2>>"$calling/said" </dev/null
+        "$program" >"$calling/printed" 2>>"$calling/said" </dev/null
     hold "$language" $?
 }
 
-# Names a program that cannot be run here, and sees whether its text compiles, which needs no x86-64.
+# Names a program that cannot be run here, and sees whether its text compiles, where the command for that is there.
 not_run() { # LANGUAGE COMMAND...
     local language=$1
     shift
@@ -102,7 +99,7 @@ link_shared() { # PROGRAM
 shared() {
     local program=$out/client-shared
     if make_shared >"$calling/said" 2>&1 && link_shared "$program" >>"$calling/said" 2>&1 &&
-        start "$out/client" empty >"$calling/archive" && start "$program" empty >"$calling/printed" 2>>"$calling/said" &&
+        "$out/client" empty >"$calling/archive" && "$program" empty >"$calling/printed" 2>>"$calling/said" &&
         cmp -s -- "$calling/archive" "$calling/printed"; then
         say "  the shared object answers every call as the archive does"
         passed=$((passed + 1))

@@ -1,7 +1,6 @@
 # shellcheck shell=bash disable=SC2154 # client/run sets what is only read here.
-# How client/run compiles and links programs for x86-64. The ways are tried in turn, or the one alone that CLIENT_CC names:
-#     cc      on x86-64, the machine's own compiler
-#     cross   elsewhere, Debian's cross compiler, with the kit's linker
+# How client/run compiles and links programs. The ways are tried in turn, or the one alone that CLIENT_CC names:
+#     cc      the machine's own compiler
 #     kit     the kit's compiler and linker; the kit has no C headers, so it takes the machine's own
 
 # Adds the folders of the machine's C headers to the compiler's words: the first that a compiler brought along, and the
@@ -14,20 +13,19 @@ add_headers() {
         compile+=(-isystem "$folder")
         break
     done
-    compile+=(-isystem "/usr/include/$machine-linux-gnu" -isystem /usr/include)
+    compile+=(-isystem /usr/include/x86_64-linux-gnu -isystem /usr/include)
 }
 
 # Sets the words that compile and those that link.
 set_way() { # WAY
-    link=("$kit/bin/rattle-link" --target x86_64-unknown-linux-gnu --toolchain "$kit/toolchain")
     case $1 in
     cc) compile=(cc) link=(cc) ;;
-    cross) compile=(x86_64-linux-gnu-gcc) ;;
     kit)
         compile=("$kit/toolchain/bin/clang" --target=x86_64-linux-gnu -nostdinc)
+        link=("$kit/bin/rattle-link" --target x86_64-unknown-linux-gnu --toolchain "$kit/toolchain")
         add_headers
         ;;
-    *) stop "CLIENT_CC is cc, cross or kit, and not $1" ;;
+    *) stop "CLIENT_CC is cc or kit, and not $1" ;;
     esac
 }
 
@@ -39,9 +37,8 @@ compiles() { # FLAG...
 
 # Sets the first way that works for a language.
 choose() { # LANGUAGE FLAG...
-    local way ways=(cross kit) language=$1
+    local way ways=(cc kit) language=$1
     shift
-    [ "$machine" != x86_64 ] || ways=(cc kit)
     [ -z "${CLIENT_CC:-}" ] || ways=("$CLIENT_CC")
     : >"$out/tried"
     for way in "${ways[@]}"; do
@@ -85,9 +82,4 @@ need_program() { # NAME
     make_program "client/$1.c" "$out/$1" -std=c99 >"$out/built" 2>&1 && return
     tail -n 20 -- "$out/built" >&2
     stop "client/$1.c cannot be compiled and linked with the archive"
-}
-
-# Starts a program for x86-64.
-start() { # PROGRAM WORD...
-    ${emulator[@]+"${emulator[@]}"} ${loader[@]+"${loader[@]}"} "$@"
 }

@@ -50,21 +50,21 @@ reason() { sed -n '${s/.*: //;p;}' "$scratch/fault"; }
 ready() { # PROGRAM FOLDER [--] [FILE]
     local program=$1 folder=$2
     shift 2
-    need awk cat dirname find head mktemp od readlink rm sed tail tee touch tr uname
+    need awk cat cp dirname find head mktemp mv od readlink rm sed tail tee touch tr uname
     open_sheet "$@"
     enter "$folder"
     catch_signals
     trap clean EXIT
     make_scratch
     take_sheet
-    if stale "$program"; then build_program "$program"; fi
     find_start
+    if stale "$program"; then build_program "$program"; fi
 }
 
-# Has the program answer a file. It ends with status 0 even where it could not write, and says so.
+# Has the program answer a file. One that could not write its answer says so, whatever status it ends with.
 run_program() { # PROGRAM FILE
     local status
-    "${emulator[@]}" "${loader[@]}" "target/bin/$1" <"$2" >"$scratch/printed" 2>"$scratch/fault"
+    "target/bin/$1" <"$2" >"$scratch/printed" 2>"$scratch/fault"
     status=$?
     if [ "$status" -ne 0 ] || [ -s "$scratch/fault" ]; then
         stop "the program target/bin/$1 ended with status $status and without its whole answer: $(reason)"

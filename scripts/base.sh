@@ -5,7 +5,7 @@
 # sentence and status 2, it defines `stop` anew; where it has something to do when a signal comes, `killed`.
 set -u
 
-# rt reads its own lines by awk, and gawk in a UTF-8 locale loses some of them, and with them all progress.
+# So that awk, sed and grep take bytes as bytes, whatever a sheet or a refusal has in it.
 export LC_ALL=C
 
 child='' scratch=''
@@ -79,21 +79,16 @@ apart() { # COMMAND...
     return "$status"
 }
 
-# Finds the kit's folder for this machine, two above the real rt.
+# Finds the kit's folder, two above the real rt.
 find_kit() {
     need rt
-    kit=$(dirname -- "$(dirname -- "$(readlink -f -- "$(command -v rt)")")")/on/$machine
+    kit=$(dirname -- "$(dirname -- "$(readlink -f -- "$(command -v rt)")")")
 }
 
-# Finds the words that start a program here. Programs are for x86-64; elsewhere the kit's emulator and loader run them.
+# Sees that programs can be started here: the kit and all that it builds are for x86-64.
 find_start() {
-    machine=$(uname -m) emulator=() loader=()
-    [ "$machine" != x86_64 ] || return 0
-    find_kit
-    emulator=("$kit/toolchain/bin/qemu-x86_64")
-    [ -x "${emulator[0]}" ] ||
-        stop "the kit of rt has no emulator for this machine, $machine (bin/qemu-x86_64 of its toolchain)"
-    loader=("$kit/toolchain/lib/ld-linux-x86-64.so.2" --library-path "$kit/toolchain/lib")
+    machine=$(uname -m)
+    [ "$machine" = x86_64 ] || stop "this machine is $machine, and the programs and the kit of rt are for x86_64"
 }
 
 # Sees that what is built can be put below target/.
@@ -107,41 +102,54 @@ make_target() { # FOLDER...
     done
 }
 
-# Runs rt, keeps all that it says in a file, and shows the lines by which it tells how far it is.
-run_rt() { # FILE WORD...
-    local log=$1
-    shift
-    rt "$@" 2>&1 | tee -- "$log" | sed -un "s/^rt: /$name:   /p" >&2
+# Runs rt in a crate's folder, keeps all that it says in a file, and shows how far it is: rt's own lines, and one for each
+# crate that is proved.
+run_rt() { # FILE CRATE WORD...
+    local log=$1 folder=crates/$2
+    shift 2
+    (cd -- "$folder" && rt "$@") 2>&1 | tee -- "$log" | sed -un -e '/^rt: running /d' -e "s/^rt: /$name:   /p" \
+        -e '/^crate /{s/^crate \([^:]*\): .*/\1 is proved/;h;}' -e "/^logic=proved /{x;s/^./$name:   &/p;}" >&2
     return "${PIPESTATUS[0]}"
 }
 
-# Whether a program is missing or older than something that it is built from.
+# Whether a program is missing or older than something that it is built from. What rt makes in a crate's folder out/ is none
+# of that.
 stale() { # PROGRAM
     [ ! -x "target/bin/$1" ] ||
-        [ -n "$(find crates crates.txt -name must-fail -prune -o -newer "target/bin/$1" -print -quit)" ]
+        [ -n "$(find crates crates.txt \( -name must-fail -o -regex 'crates/[^/]*/out' \) -prune -o \
+            \( -type f -o -path 'crates/*/*' \) -newer "target/bin/$1" -print -quit)" ]
 }
 
-# Proves and builds a program. It gets the time at which this began, so that an edit made meanwhile counts as newer.
+# Puts what rt built into its place below target/, whole or not at all. Given a file, it gets that one's time.
+take_built() { # FILE PLACE [FILE]
+    cp -- "$1" "$2.new" 2>/dev/null && { [ $# -eq 2 ] || touch -r "$3" "$2.new"; } && mv -f -- "$2.new" "$2" ||
+        stop "$1, which rt has built, cannot be put to $2"
+}
+
+# Proves and builds a program, which rt then starts, here on an empty input. It gets the time at which this began, so that
+# an edit made meanwhile counts as newer.
 build_program() { # PROGRAM
-    local program=$1 log=$scratch/build
+    local program=$1 log=$scratch/build built=crates/$1/out/$1
     need rt
-    make_target
-    say "proving and building the program; the first time this takes a minute or two, later only what changed"
-    # The prover keeps a note of what it built, which says nothing about a program that was removed since.
-    [ -x "target/bin/$program" ] || rm -f -- "target/stamp/$program"
+    make_target target/bin
+    say "proving and building the program; the first time this takes some minutes, later only what changed"
     : >"$scratch/began"
-    if ! apart run_rt "$log" check "$program"; then
+    if ! apart run_rt "$log" "$program" run; then
         tail -n 30 -- "$log" >&2
-        stop "the program is not built, because rt check $program failed; the lines above are the end of what it said"
+        stop "the program is not built, because rt run failed in crates/$program; the lines above are the end of what it said"
     fi
-    [ -x "target/bin/$program" ] || stop "rt check $program ended well and left no program at target/bin/$program"
-    touch -r "$scratch/began" "target/bin/$program"
+    [ -x "$built" ] || stop "rt run ended well in crates/$program and left no program at $built"
+    take_built "$built" "target/bin/$program" "$scratch/began"
 }
 
 # Proves the library and writes its archive, target/staticlib/libexports.a.
 build_archive() { # FILE
-    say "proving the library and writing its archive; the first time this takes two minutes, later only what changed"
-    apart run_rt "$1" staticlib exports && return
-    tail -n 20 -- "$1" >&2
-    stop "rt staticlib exports failed; the lines above are the end of what it said"
+    local built=crates/exports/out/libexports.a
+    say "proving the library and writing its archive; the first time this takes some minutes, later only what changed"
+    if ! apart run_rt "$1" exports lib; then
+        tail -n 20 -- "$1" >&2
+        stop "rt lib failed in crates/exports; the lines above are the end of what it said"
+    fi
+    [ -f "$built" ] || stop "rt lib ended well in crates/exports and left no archive at $built"
+    take_built "$built" target/staticlib/libexports.a
 }
