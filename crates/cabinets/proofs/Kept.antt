@@ -119,14 +119,14 @@ module _ (l : Lists) (room : ℕ) (shift : Shift) (exit : List ℕ) (r : Answer)
     loses : (most : ℕ) → lost + 19 ≤ most → LosesAtMost most (ways_by l N out back) (kept_offset l exit) (moved_plan shift (timed l) (m l))
     loses most enough =
         let (to, fro) = bands most enough in
-        record { outbound-stretch = to.inside; inbound-stretch = fro.inside; outbound-short = to.short; inbound-short = fro.short }
+        record { outbound_stretch = to.inside; inbound_stretch = fro.inside; outbound_short = to.short; inbound_short = fro.short }
 
     -- of the reply's own numbers
     kept : KeptInSeconds (ways_by l N out back) (kept_offset l exit) (plan_numbers r).plan lost
     kept =
         let (to, fro) = bands (lost + 19) (omega arith) in
         subst (λ p. KeptInSeconds (ways_by l N out back) (kept_offset l exit) p lost) said.numbers
-        (record { outbound-clear = to.clear _ _ (omega arith) (omega arith); inbound-clear = fro.clear _ _ (omega arith) (omega arith); loses = loses _ (omega arith) })
+        (record { outbound_clear = to.clear _ _ (omega arith) (omega arith); inbound_clear = fro.clear _ _ (omega arith) (omega arith); loses = loses _ (omega arith) })
 
     in_twenty : LosesAtMost (lost + 20) (ways_by l N out back) (kept_offset l exit) (plan_numbers r).plan
     in_twenty = subst (λ p. LosesAtMost (lost + 20) (ways_by l N out back) (kept_offset l exit) p) said.numbers (loses (lost + 20) (omega arith))

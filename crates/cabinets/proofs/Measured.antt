@@ -63,4 +63,4 @@ seconds_measured asked l entry exit r call code =
     let all = accepted l (length entry) said.passed offsets (length_list_below (signals l) g) less in
     let found : band_numbers (found_or Passed (measured_of s offsets)) ≡ band_numbers (measurement_of l offsets) = ap (λ v. band_numbers (found_or v (measured_of s offsets))) (sym all) in
     subst (λ n. (n.code ≡ 0) × (p.outbound ≤ n.outbound.width + 19) × (p.inbound ≤ n.inbound.width + 19)) found
-    (refl, omega (arith, kept.loses.outbound-short, out), omega (arith, kept.loses.inbound-short, back))
+    (refl, omega (arith, kept.loses.outbound_short, out), omega (arith, kept.loses.inbound_short, back))

@@ -35,16 +35,16 @@ pub record StretchInside (N : ℕ) (w : Way) (c instant before v k : ℕ) : Type
 
 -- each named band of a plan loses so many halves at most under offsets f, in halves: inside it there is an unbroken stretch of its width less these, and so the direction's own width is no less
 pub record LosesAtMost (most : ℕ) (w : Ways) (f : ℕ → ℕ) (p : Plan) : Type 0 where
-  pub outbound-stretch : StretchInside w.unit (w.outbound (λ j. w.unit * f j)) (p.reference - 1) p.starts 0 p.outbound (p.outbound - most)
-  pub inbound-stretch : StretchInside w.unit (w.inbound (λ j. w.unit * f j)) (p.reference - 1) p.ends p.inbound p.inbound (p.inbound - most)
-  pub outbound-short : w.unit * p.outbound ≤ width (w.outbound (λ j. w.unit * f j)) + w.unit * most
-  pub inbound-short : w.unit * p.inbound ≤ width (w.inbound (λ j. w.unit * f j)) + w.unit * most
+  pub outbound_stretch : StretchInside w.unit (w.outbound (λ j. w.unit * f j)) (p.reference - 1) p.starts 0 p.outbound (p.outbound - most)
+  pub inbound_stretch : StretchInside w.unit (w.inbound (λ j. w.unit * f j)) (p.reference - 1) p.ends p.inbound p.inbound (p.inbound - most)
+  pub outbound_short : w.unit * p.outbound ≤ width (w.outbound (λ j. w.unit * f j)) + w.unit * most
+  pub inbound_short : w.unit * p.inbound ≤ width (w.inbound (λ j. w.unit * f j)) + w.unit * most
 
 -- what is kept of a plan under offsets f, in halves, where the travel times cost r halves and whole seconds 19 more: every departure inside a named band, which is where the plan has it, but for those near its
 -- ends; and of each band all but r and 19 halves
 pub record KeptInSeconds (w : Ways) (f : ℕ → ℕ) (p : Plan) (r : ℕ) : Type 0 where
-  pub outbound-clear : ClearBetween w.unit (w.outbound (λ j. w.unit * f j)) (p.reference - 1) p.starts 0 p.outbound (r + 10) (r + 9)
-  pub inbound-clear : ClearBetween w.unit (w.inbound (λ j. w.unit * f j)) (p.reference - 1) p.ends p.inbound p.inbound (r + 10) (r + 9)
+  pub outbound_clear : ClearBetween w.unit (w.outbound (λ j. w.unit * f j)) (p.reference - 1) p.starts 0 p.outbound (r + 10) (r + 9)
+  pub inbound_clear : ClearBetween w.unit (w.inbound (λ j. w.unit * f j)) (p.reference - 1) p.ends p.inbound p.inbound (r + 10) (r + 9)
   pub loses : LosesAtMost (r + 19) w f p
 
 -- a claim about the plan and the lent list of every reply with code 0, whatever was asked for

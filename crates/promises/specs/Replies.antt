@@ -46,11 +46,11 @@ NoneBetter (Inbound _) w v v' r = r ≡ 0 → (f : ℕ → ℕ) → w.unit * v' 
 -- what a plan with offsets f, in halves, keeps where at most r halves are lost
 pub record Kept (shift : Shift) (w : Ways) (f : ℕ → ℕ) (p : Plan) (r : ℕ) : Type 0 where
   -- the named outbound band starts at c at the instant `starts`, the inbound one ends there at `ends`
-  pub outbound-clear : InsideClear w.unit (w.outbound (λ j. w.unit * f j)) (p.reference - 1) p.starts 0 p.outbound r
-  pub inbound-clear : InsideClear w.unit (w.inbound (λ j. w.unit * f j)) (p.reference - 1) p.ends p.inbound p.inbound r
+  pub outbound_clear : InsideClear w.unit (w.outbound (λ j. w.unit * f j)) (p.reference - 1) p.starts 0 p.outbound r
+  pub inbound_clear : InsideClear w.unit (w.inbound (λ j. w.unit * f j)) (p.reference - 1) p.ends p.inbound p.inbound r
   -- neither band falls short of its reported width by more than r halves
-  pub outbound-short : w.unit * p.outbound ≤ width (w.outbound (λ j. w.unit * f j)) + w.unit * r
-  pub inbound-short : w.unit * p.inbound ≤ width (w.inbound (λ j. w.unit * f j)) + w.unit * r
+  pub outbound_short : w.unit * p.outbound ≤ width (w.outbound (λ j. w.unit * f j)) + w.unit * r
+  pub inbound_short : w.unit * p.inbound ≤ width (w.inbound (λ j. w.unit * f j)) + w.unit * r
   -- with nothing lost they are the bands' own
   pub widths : r ≡ 0 → (width (w.outbound (λ j. w.unit * f j)) ≡ w.unit * p.outbound) × (width (w.inbound (λ j. w.unit * f j)) ≡ w.unit * p.inbound)
   pub none_better : NoneBetter shift w p.outbound p.inbound r

@@ -100,8 +100,8 @@ rounding_rows =
     ∷ []
 
 -- rows 6 to 8 and 10
-unfoldable pub width-rows : List TableRow
-width-rows =
+unfoldable pub width_rows : List TableRow
+width_rows =
     row street_A (Outbound 80) (plan 1 (pos 60) 80 40 0 20 140) (180 ∷ 10 ∷ 7 ∷ [])
     ∷ row street_A (Inbound 80) (plan 1 (pos 60) 40 80 0 40 160) (0 ∷ 190 ∷ 7 ∷ [])
     ∷ row (two_alike 600 500 15000) (Outbound 200) (plan 1 (negsuc 99) 200 0 0 200 400) (900 ∷ 0 ∷ 7 ∷ [])
@@ -182,4 +182,4 @@ resting_rows =
     ∷ []
 
 unfoldable pub rows : List TableRow
-rows = equal_rows ++ (rounding_rows ++ (width-rows ++ (platoon_rows ++ (volume_rows ++ resting_rows))))
+rows = equal_rows ++ (rounding_rows ++ (width_rows ++ (platoon_rows ++ (volume_rows ++ resting_rows))))

@@ -74,7 +74,7 @@ links_refused bytes short f =
     let rows : section min_signals max_signals (decimal n ++ line_end ∷ signals) ≡ lines f.distances f.reds links =
     section_read min_signals max_signals n signals f.some f.few (omega (arith, f.few))
     ∙ ap (λ (k : ℕ). pairs k signals) (sym f.even)
-    ∙ pairs_read f.distances f.reds links (sym f.even) f.short-distances f.short_reds in
+    ∙ pairs_read f.distances f.reds links (sym f.even) f.short_distances f.short_reds in
     from_cycle bytes f.cycle (decimal n ++ line_end ∷ signals) short f.short_cycle (f.form ∙ simp append_assoc)
     ∙ rw (rows, miscounted_read (n - 1) (n - 1) f.count f.rest (other_is_outside f.count (n - 1) f.wrong) f.short_count) refl
 
@@ -161,7 +161,7 @@ module _ (bytes : List ℕ) (cycle : ℕ) (s : EightDigits cycle) where
         few = omega (arith, w.counted.even, w.counted.high);
         even = sym w.counted.even;
         short_cycle = s;
-        short-distances = w.lefts;
+        short_distances = w.lefts;
         short_reds = w.rights;
         short_count = k.short;
         wrong = λ e. ⊎_elim (λ h. omega arith) (λ h. omega arith) k.wrong;

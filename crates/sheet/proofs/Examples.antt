@@ -51,9 +51,9 @@ writable_a =
       inbound = refl;
       short_cycle = lit< tt;
       short_reds = (lit< tt, (lit< tt, tt));
-      short-distances = (lit< tt, (lit< tt, tt));
-      short-outbound = (lit< tt, tt);
-      short-inbound = (lit< tt, tt);
+      short_distances = (lit< tt, (lit< tt, tt));
+      short_outbound = (lit< tt, tt);
+      short_inbound = (lit< tt, tt);
       fits = lit≤ tt;
     }
 
@@ -143,7 +143,7 @@ links_miscounted =
             few = lit≤ tt;
             even = refl;
             short_cycle = lit< tt;
-            short-distances = (lit< tt, (lit< tt, tt));
+            short_distances = (lit< tt, (lit< tt, tt));
             short_reds = (lit< tt, (lit< tt, tt));
             short_count = lit< tt;
             wrong = λ e. omega arith;

@@ -38,13 +38,13 @@ module _ (l : Lists) (w : Writable l) where
   signals_read =
       section_read min_signals max_signals (signals l) (pair_lines l.distances l.reds ++ from_links l) w.some w.few (omega (arith, w.few))
       ∙ ap (λ (k : ℕ). pairs k (pair_lines l.distances l.reds ++ from_links l)) (sym w.distances)
-      ∙ pairs_read l.distances l.reds (from_links l) (sym w.distances) w.short-distances w.short_reds
+      ∙ pairs_read l.distances l.reds (from_links l) (sym w.distances) w.short_distances w.short_reds
 
   links_read : section (signals l - 1) (signals l - 1) (from_links l) ≡ lines l.outbound l.inbound []
   links_read =
       section_read (signals l - 1) (signals l - 1) (signals l - 1) (pair_lines l.outbound l.inbound ++ []) (le_refl _) (le_refl _) (omega (arith, w.few))
       ∙ ap (λ (k : ℕ). pairs k (pair_lines l.outbound l.inbound ++ [])) (sym w.outbound)
-      ∙ pairs_read l.outbound l.inbound [] (w.inbound ∙ sym w.outbound) w.short-outbound w.short-inbound
+      ∙ pairs_read l.outbound l.inbound [] (w.inbound ∙ sym w.outbound) w.short_outbound w.short_inbound
 
 -- the text of a writable street is accepted, with that street's numbers
 pub text_is_accepted : (l : Lists) → Writable l → parsed (text l) ≡ accepted l
@@ -90,9 +90,9 @@ read_is_text bytes cycle distances reds outbound inbound after later short c s k
     inbound = k.counted.even ∙ as_links;
     short_cycle = c.1;
     short_reds = s.rights;
-    short-distances = s.lefts;
-    short-outbound = k.lefts;
-    short-inbound = k.rights;
+    short_distances = s.lefts;
+    short_outbound = k.lefts;
+    short_inbound = k.rights;
     fits = subst (λ (b : List ℕ). length b ≤ max_bytes) is short;
   },
 )

@@ -53,9 +53,9 @@ pub record Writable (l : Lists) : Type 0 where
   pub inbound : length l.inbound ≡ signals l - 1
   pub short_cycle : EightDigits l.cycle
   pub short_reds : AllEightDigits l.reds
-  pub short-distances : AllEightDigits l.distances
-  pub short-outbound : AllEightDigits l.outbound
-  pub short-inbound : AllEightDigits l.inbound
+  pub short_distances : AllEightDigits l.distances
+  pub short_outbound : AllEightDigits l.outbound
+  pub short_inbound : AllEightDigits l.inbound
   pub fits : length (text l) ≤ max_bytes
 
 -- a wrong number of signals: a first section of the form, and then a whole line with a number that is not 1 to 32, whatever follows
@@ -79,7 +79,7 @@ pub record LinkCount (bytes : List ℕ) : Type 0 where
   pub few : length reds ≤ max_signals
   pub even : length distances ≡ length reds
   pub short_cycle : EightDigits cycle
-  pub short-distances : AllEightDigits distances
+  pub short_distances : AllEightDigits distances
   pub short_reds : AllEightDigits reds
   pub short_count : EightDigits count
   pub wrong : count ≡ length reds - 1 → ⊥

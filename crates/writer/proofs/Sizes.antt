@@ -73,9 +73,9 @@ module _ (l : Lists) (room : ℕ) (ok : InLimits l room) where
         inbound = ok.counts.inbound;
         short_cycle = omega (arith, ok.cycle.high);
         short_reds = all_eight l.reds (λ i h. omega (arith, reds_below i h));
-        short-distances = all_eight l.distances distances_below;
-        short-outbound = all_eight l.outbound (λ i h. omega (arith, outbound_below i h));
-        short-inbound = all_eight l.inbound (λ i h. omega (arith, inbound_below i h));
+        short_distances = all_eight l.distances distances_below;
+        short_outbound = all_eight l.outbound (λ i h. omega (arith, outbound_below i h));
+        short_inbound = all_eight l.inbound (λ i h. omega (arith, inbound_below i h));
         fits = omega (arith, size);
       }
 

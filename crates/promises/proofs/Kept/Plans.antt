@@ -86,10 +86,10 @@ module _ (l : Lists) (room : ℕ) (passed : plan_checks l room ≡ Passed) (N r 
       let to = way_in l N (λ j. N * g j) out in
       let fro = way_in l N (λ j. N * g j) back in
       record {
-        outbound-clear = subst (λ (k : ℕ). InsideClear N to k (red_end s c (moved_offset shift s c)) 0 v r) from-1 (subst (λ (z : ℕ). InsideClear N to c (red_end s c z) 0 v r) own (clear_out l room passed N r near g v v' named));
-        inbound-clear = subst (λ (k : ℕ). InsideClear N fro k (red_start s c (moved_offset shift s c)) v' v' r) from-1 (subst (λ (z : ℕ). InsideClear N fro c (red_start s c z) v' v' r) own (clear_back l room passed N r near g v v' named));
-        outbound-short = short_out l room passed N r near g v v' named;
-        inbound-short = short_back l room passed N r near g v v' named;
+        outbound_clear = subst (λ (k : ℕ). InsideClear N to k (red_end s c (moved_offset shift s c)) 0 v r) from-1 (subst (λ (z : ℕ). InsideClear N to c (red_end s c z) 0 v r) own (clear_out l room passed N r near g v v' named));
+        inbound_clear = subst (λ (k : ℕ). InsideClear N fro k (red_start s c (moved_offset shift s c)) v' v' r) from-1 (subst (λ (z : ℕ). InsideClear N fro c (red_start s c z) v' v' r) own (clear_back l room passed N r near g v v' named));
+        outbound_short = short_out l room passed N r near g v v' named;
+        inbound_short = short_back l room passed N r near g v v' named;
         widths = λ none. filled l room passed N r near none g v v' named;
         none_better = none_better shift range;
       }

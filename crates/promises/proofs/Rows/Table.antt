@@ -10,7 +10,7 @@ use Rattle.street.specs.Checks.{count_check, room_check, cycle_check, red_check,
 use Rattle.widths.specs.Moved.{platoon_shift}
 use Rattle.traffic.specs.Checks.{volume_check}
 use Rattle.widths.specs.Checks.{platoon_check, traffic_check, width_check}
-use Rattle.promises.specs.Rows.{best_is, ExactBest, lent, Holds, All, two_signals, two_alike, street_A, school_street, long_cycle, plan, row, best_row, refusal, equal_rows, rounding_rows, width-rows, platoon_rows, volume_rows, crossing, one_red, no_red, resting_rows, rows}
+use Rattle.promises.specs.Rows.{best_is, ExactBest, lent, Holds, All, two_signals, two_alike, street_A, school_street, long_cycle, plan, row, best_row, refusal, equal_rows, rounding_rows, width_rows, platoon_rows, volume_rows, crossing, one_red, no_red, resting_rows, rows}
 use Rattle.promises.proofs.Streets.Directions.{near_exact}
 use Rattle.promises.proofs.Kept.Bounds.{none-wider}
 use Rattle.promises.proofs.Witnesses.{fine_link}
@@ -24,13 +24,13 @@ nine = (
 )
 
 pub rows_hold : All rows
-unfolding All Holds ExactBest best_row row plan refusal rows equal_rows rounding_rows width-rows platoon_rows volume_rows resting_rows two_signals two_alike street_A school_street long_cycle crossing one_red no_red lent
+unfolding All Holds ExactBest best_row row plan refusal rows equal_rows rounding_rows width_rows platoon_rows volume_rows resting_rows two_signals two_alike street_A school_street long_cycle crossing one_red no_red lent
 rows_hold =
     unfold count_check room_check cycle_check red_check distance_check speed_check plan_checks platoon_check volume_check traffic_check width_check in
     unfold first_below sum_below list_below u pair_width b B reference phase offset equal_width red_end red_start g in_range chosen outbound_lowering inbound_lowering lowered other_width found_width platoon_width platoon_shift over_below all_below in
     let resting : All resting_rows = ((refl, refl, tt), ((refl, refl, tt), ((refl, refl, tt), ((refl, refl, tt), ((refl, refl, tt), ((refl, refl, tt), ((refl, refl, tt), ((refl, refl, tt), tt)))))))) in
     let volumes : All (volume_rows ++ resting_rows) = ((refl, refl, tt), ((refl, refl, tt), ((refl, refl, tt), ((refl, refl, tt), ((refl, refl, tt), ((refl, refl, tt), ((refl, refl, tt), ((refl, refl, tt), ((refl, refl, tt), ((refl, refl, tt), resting)))))))))) in
     let platoons : All (platoon_rows ++ (volume_rows ++ resting_rows)) = ((refl, refl, tt), ((refl, refl, tt), ((refl, refl, tt), ((refl, refl, tt), ((refl, refl, tt), ((refl, refl, tt), ((refl, refl, tt), ((refl, refl, tt), ((refl, refl, tt), volumes))))))))) in
-    let widths : All (width-rows ++ (platoon_rows ++ (volume_rows ++ resting_rows))) = ((refl, refl, tt), ((refl, refl, tt), ((refl, refl, tt), ((refl, refl, tt), ((refl, refl, tt), ((refl, refl, tt), ((refl, refl, tt), ((refl, refl, tt), platoons)))))))) in
-    let roundings : All (rounding_rows ++ (width-rows ++ (platoon_rows ++ (volume_rows ++ resting_rows)))) = ((refl, refl, tt), ((refl, refl, tt), widths)) in
+    let widths : All (width_rows ++ (platoon_rows ++ (volume_rows ++ resting_rows))) = ((refl, refl, tt), ((refl, refl, tt), ((refl, refl, tt), ((refl, refl, tt), ((refl, refl, tt), ((refl, refl, tt), ((refl, refl, tt), ((refl, refl, tt), platoons)))))))) in
+    let roundings : All (rounding_rows ++ (width_rows ++ (platoon_rows ++ (volume_rows ++ resting_rows)))) = ((refl, refl, tt), ((refl, refl, tt), widths)) in
     ((refl, refl, tt), ((refl, refl, tt), ((refl, refl, tt), ((refl, refl, tt), ((refl, refl, tt), ((refl, refl, nine), ((refl, refl, tt), roundings)))))))
