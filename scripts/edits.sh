@@ -92,7 +92,8 @@ try_edit() { # LANE CRATE EDIT LOG
     done < <(sed -n 's/^file:[[:space:]]*//p' "$3" | sed 's/[[:space:]]*$//')
 }
 
-# Tries those edits of a list that nothing else has begun with.
+# Tries those edits of a list that nothing else has begun with. Where a sum lies beside a log's place, under the end .new, it
+# gets the end .sum once the edit is tried.
 work_on() { # LANE LIST
     local number=0 crate edit log
     while IFS=' ' read -r crate edit log; do
@@ -100,6 +101,7 @@ work_on() { # LANE LIST
         mkdir -- "$2.$number" 2>/dev/null || continue
         [ -d "$1" ] || make_lane "$1" || return
         mkdir -p -- "${log%/*}" && try_edit "$1" "$crate" "$edit" "$log" && say "  tried $edit"
+        if [ -f "$log.new" ] && grep -q '^logic=' "$log"; then mv -f -- "$log.new" "$log.sum"; fi
     done <"$2"
 }
 

@@ -21,9 +21,6 @@ try_edits() { # CRATE...
     say "trying $(wc -l <"$scratch/edits") must-fail edits once more, for all that their refusals say"
     keep_work "$@" || { fault "a crate is not proved as it stands; rt check in its folder says more"; return; }
     apart try_all "$scratch/edits"
-    while IFS=' ' read -r crate edit log; do
-        if grep -q '^logic=' "$log" 2>/dev/null; then mv -f -- "$log.new" "$log.sum"; else rm -f -- "$log.new"; fi
-    done <"$scratch/edits"
 }
 
 # Prints what is wrong with a must-fail edit and its refusal; nothing where the refusal shows what the edit expects.
