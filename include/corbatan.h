@@ -37,10 +37,10 @@
  *     ./install FOLDER
  *
  * proves the library and puts this header, the archive libcorbatan.a and a
- * file for pkg-config into FOLDER. `rt staticlib exports` makes the archive
- * alone, and leaves it at target/staticlib/libexports.a. From nothing either
- * takes some two minutes on two processors, and about twelve seconds once all
- * is proved. A program is then built by
+ * file for pkg-config into FOLDER. `rt lib` in crates/exports makes the archive
+ * alone, and leaves it at out/libexports.a there. From nothing either proves
+ * the whole library, and takes about ten seconds once that is done. A program
+ * is then built by
  *
  *     cc -I FOLDER/include program.c FOLDER/lib/libcorbatan.a -o program
  *

@@ -19,6 +19,9 @@ const CALLS: [(&str, &[&str]); 8] = [
     ("plan", &["send"]),
 ];
 
+/// Where an operator's name has an operand.
+const HOLE: char = '◌';
+
 const FOR_C: &str = "extern \"C\" fn ";
 
 /// The file that states what is demanded of the replies.
@@ -78,7 +81,7 @@ impl Scope {
     /// Adds a name; an operator is cited by its parts.
     fn add(&mut self, name: &str, id: Id) {
         self.names.insert(name.to_string(), id);
-        for part in name.split('_').filter(|part| name.contains('_') && !part.is_empty()) {
+        for part in name.split(HOLE).filter(|part| name.contains(HOLE) && !part.is_empty()) {
             self.names.insert(part.to_string(), id);
         }
     }
@@ -118,9 +121,9 @@ impl House {
 
     /// The file of a module of specs/; none for a library and for what the code declares.
     fn file_of(&self, module: &str) -> Option<usize> {
-        let (room, rest) = module.strip_prefix("Rattle·")?.split_once('.')?;
-        let room = room.strip_suffix("·specs").unwrap_or(room);
-        if !self.crates.iter().any(|name| name == room) || rest.starts_with("specs.declared.") {
+        let (room, rest) = module.strip_prefix("Rattle.")?.split_once('.')?;
+        let inside = rest.strip_prefix("specs.")?;
+        if !self.crates.iter().any(|name| name == room) || inside.starts_with("declared.") {
             return None;
         }
         let path = format!("{room}/{}.antt", rest.replace('.', "/"));
@@ -166,11 +169,15 @@ impl House {
         scope
     }
 
-    /// The definition that a word stands for, if it stands for one.
+    /// The definition that a word stands for, if it stands for one; before a point stands a file's other name, or what has a
+    /// field.
     fn stands_for(&self, scope: &Scope, word: &str) -> Option<Id> {
         let of_file = || {
-            let (alias, name) = word.split_once('.')?;
-            scope.files.get(alias).and_then(|&file| self.export(file, name))
+            let (first, rest) = word.split_once('.')?;
+            match scope.files.get(first) {
+                Some(&file) => self.export(file, rest),
+                None => scope.names.get(first).copied(),
+            }
         };
         scope.names.get(word).copied().or_else(of_file)
     }
@@ -186,7 +193,8 @@ impl House {
 
     /// What a term's words cite.
     fn cited_by(&self, scope: &Scope, words: &[String], taken: &BTreeSet<String>) -> Cited {
-        let free = names(words).into_iter().filter(|name| !taken.contains(name));
+        let first = |name: &String| name.split('.').next().unwrap_or("").to_string();
+        let free = names(words).into_iter().filter(|name| !taken.contains(&first(name)));
         free.filter_map(|name| self.stands_for(scope, &name)).collect()
     }
 
@@ -306,7 +314,9 @@ fn contract(house: &House, source: &str, function: &str) -> Option<Contract> {
         let before = rest[..at].trim_end();
         parameters
             .extend(before.split_whitespace().filter_map(|word| word.strip_suffix(':')).map(String::from));
-        if !before.ends_with("requires") && !before.ends_with("ensures") {
+        // A clause may have a name.
+        let mut last = before.rsplit(char::is_whitespace).take(2);
+        if !last.any(|word| word == "requires" || word == "ensures") {
             break;
         }
         let inside = bracketed(&rest[at..]);

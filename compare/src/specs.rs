@@ -37,7 +37,7 @@ pub fn files_below(folder: &Path, end: &str) -> Vec<PathBuf> {
 pub fn crates(root: &Path) -> Vec<String> {
     let list = text_at(&root.join("crates.txt"));
     let rows = list.lines().filter(|line| !line.starts_with('#'));
-    rows.filter_map(|line| line.split_once(':')).map(|(name, _)| name.to_string()).collect()
+    rows.filter_map(|line| line.split(&[' ', ':'][..]).next()).map(String::from).collect()
 }
 
 /// Every file of specs/, crate by crate.

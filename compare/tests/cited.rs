@@ -12,10 +12,10 @@ pub data Found : Type 0 where
   at : ℕ → Found
 
 -- two, and one for its rank
-abbrev pub _and_ : Bool → Bool → Bool
+abbrev pub ◌and◌ : Bool → Bool → Bool
 p and q = cond p q false
 
-infixr 5 _and_
+infixr 5 ◌and◌
 abbrev pub red : ℕ
 red = 5
 
@@ -23,38 +23,39 @@ unfoldable pub length : ℕ → ℕ
 length n = n
 ";
 
-const HIGH: &str = "use Rattle·low.specs.Low.{Found, at as found, red, length}
-use Rattle·low.specs.Low as low
-use Rattle·high·specs.specs.declared.Plan.{Plan}
+const HIGH: &str = "use Rattle.low.specs.Low.{Found, at as found, red, length}
+use Rattle.low.specs.Low as low
+use Rattle.high.specs.declared.Plan.{Plan}
 
 -- it takes a field `red`, gives one, and binds `length`: neither definition is cited
 abbrev pub field : Plan → Found → Plan
 field p (found length) =
-    record { red = p .red; ends = λ k. k + length }
+    record { red = p.red; ends = λ k. k + length }
 
 -- it cites an operator and a constructor through their file
 abbrev pub both : ℕ → ℕ
-both n = (low.nowhere) low._and_ n
+both n = (low.nowhere) low.◌and◌ n
 
 pub record Kept (red : ℕ) : Type 0 where
   -- the parameter, and not the definition
   pub same : red ≡ red
 ";
 
-const STEPS: &str = "use Rattle·low.specs.Low.{length}
-use Rattle·high·specs.specs.High.{Kept}
+const STEPS: &str = "use Rattle.low.specs.Low.{length}
+use Rattle.high.specs.High.{Kept}
 
 abbrev pub step : ℕ → Kept 0
 step n = length n
 ";
 
-const CODE: &str = "ghost use Rattle·high·specs.specs.High.{field, Kept};
-ghost use Rattle·high·specs.specs.Steps.{step};
+const CODE: &str = "ghost use Rattle.high.specs.High.{field, Kept};
+ghost use Rattle.high.specs.Steps.{step};
 
 // A contract of two lines.
 pub fn measure(red: u32, field: [u8; 4]) -> u32
-    requires { λ r. { Kept red } × field }
-    ensures { ⌜ r ≡ 1 ⌝ }
+    requires { Kept red × field.now }
+    ensures one { result ≡ 1 }
+    ensures two { result ≡ 1 }
 {
     step(red)
 }

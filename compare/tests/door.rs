@@ -189,10 +189,7 @@ fn a_plan_that_is_lost_is_no_success() {
     // The programs themselves have no exit status; they say it, and the scripts take that for a loss.
     let programs = [("plan", "plan: the answer could not"), ("cases", "cases: a reply could not")];
     for (program, said) in programs {
-        let line = format!(
-            ". scripts/base.sh; find_start; (echo equal; cat sheets/street-a.txt) | \
-             \"${{emulator[@]}}\" \"${{loader[@]}}\" target/bin/{program} >/dev/full"
-        );
+        let line = format!("(echo equal; cat sheets/street-a.txt) | target/bin/{program} >/dev/full");
         expect(program, &bash(&line), 0, "", said);
     }
 }
@@ -546,7 +543,7 @@ fn the_typists_page_tells_how_to_check_a_sheet_that_came_back() {
     came_back(&sent.replace("30000 50", "30000\t60"), 1, "", "line 5 should have the distance and the red");
 }
 
-/// A folder with the scripts and no crate, and with a kit of its own, whose `rt` runs a line of sh.
+/// A folder with the scripts and two empty crates, and with a kit of its own, whose `rt` runs a line of sh.
 fn house(rt: &str) -> Folder {
     let folder = Folder::make();
     for file in ["plan", "ask", "crates.txt", "scripts/base.sh", "scripts/answer.sh"] {
@@ -555,7 +552,9 @@ fn house(rt: &str) -> Folder {
     for file in ["scripts/words.awk", "scripts/sheet.awk", "scripts/rows.awk"] {
         folder.copy(file);
     }
-    fs::create_dir(folder.0.join("crates")).expect("a folder for crates");
+    for program in ["plan", "cases"] {
+        fs::create_dir_all(folder.0.join("crates").join(program)).expect("a folder for a crate");
+    }
     runs(&folder, "kit/bin/rt", rt);
     folder
 }
@@ -577,8 +576,6 @@ fn start(house: &Folder, name: &str, words: &[&str]) -> Command {
 #[test]
 fn an_answer_that_the_program_could_not_write_is_no_answer() {
     let house = house("exit 0");
-    let emulator = format!("kit/on/{}/toolchain/bin/qemu-x86_64", std::env::consts::ARCH);
-    runs(&house, &emulator, "shift 3; exec \"$@\"");
     let ends = [
         (
             "echo 'plan: half of it is lost' >&2",
@@ -621,8 +618,8 @@ fn deaf(signal: u32) -> bool {
 fn a_signal_ends_the_provers_too() {
     let signals =
         [("TERM", 15), ("INT", 2), ("HUP", 1)].into_iter().filter(|&(name, k)| name == "TERM" || !deaf(k));
-    let scripts = [("plan", vec![]), ("ask", vec!["equal"])];
-    for ((signal, _), (name, words)) in
+    let scripts = [("plan", vec![], "crates/plan/prover"), ("ask", vec!["equal"], "crates/cases/prover")];
+    for ((signal, _), (name, words, prover)) in
         signals.flat_map(|signal| scripts.clone().map(|script| (signal, script)))
     {
         // As rt does, it starts a prover in the background, where a shell makes it deaf to Ctrl-C.
@@ -631,7 +628,7 @@ fn a_signal_ends_the_provers_too() {
         let mut child = command.stdout(Stdio::null()).stderr(Stdio::null()).spawn().expect("a script");
         let began = Instant::now();
         let prover = loop {
-            let text = fs::read_to_string(house.0.join("prover")).unwrap_or_default();
+            let text = fs::read_to_string(house.0.join(prover)).unwrap_or_default();
             if text.ends_with('\n') {
                 break text.trim().to_string();
             }
@@ -660,16 +657,13 @@ fn a_signal_ends_the_provers_too() {
 
 #[test]
 fn what_cannot_be_built_is_said_and_rt_runs_under_one_locale() {
-    let broken = house("echo \"rt: street proved (18 s)\"; echo \"rt: in $LC_ALL, $1 $2 is broken\"; exit 1");
+    let broken = house("echo \"rt: street proved (18 s)\"; echo \"rt: in $LC_ALL, $1 is broken\"; exit 1");
     let failed = ended(&mut start(&broken, "plan", &["-q"]), STREET_A);
-    expect(
-        "a failed proof",
-        &failed,
-        2,
-        "",
-        "plan:   street proved (18 s)\nplan:   in C, check plan is broken\n",
+    expect("a failed proof", &failed, 2, "", "plan:   street proved (18 s)\nplan:   in C, run is broken\n");
+    assert!(
+        failed.said.contains("the program is not built, because rt run failed in crates/plan"),
+        "{failed:?}"
     );
-    assert!(failed.said.contains("the program is not built, because rt check plan failed"), "{failed:?}");
     for name in ["plan", "ask"] {
         let house = house("exit 0");
         house.put("target", "a file where the folder should be");

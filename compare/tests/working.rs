@@ -33,8 +33,8 @@ fn every_file_and_test_that_the_page_names_is_there() {
 fn every_crate_part_and_variable_is_on_the_page() {
     let page = Page::open("WORKING.md").text;
     let (crates, gate) = (text("crates.txt"), text("test"));
-    for name in crates.lines().filter(|line| !line.starts_with('#')).filter_map(|line| line.split(':').next())
-    {
+    let lines = crates.lines().filter(|line| !line.starts_with('#'));
+    for name in lines.filter_map(|line| line.split(&[' ', ':'][..]).next()) {
         let quoted = format!("`{name}` ");
         let timed = page.split(&quoted).skip(1).any(|rest| rest.starts_with(char::is_numeric));
         assert!(timed, "the page has no seconds for the crate {name}");
