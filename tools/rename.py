@@ -5,7 +5,7 @@ usage: python3 tools/rename.py [--dry] [FOLDER]     at the top of a checkout tha
 
 A name is one that a file of specs/ or proofs/ declares. A hump becomes `_`, and so does a dash, but where it joins two
 names of definitions. Names of functions, exported names, strings and what the prover makes keep their spelling. Where two
-names would fall together, the lemma's gets `_lem`, and the script says so. The second run finds nothing to do.
+names would fall together, the lemma's gets `_lem`, and the script says so. It is run once.
 """
 import collections
 import os
@@ -18,6 +18,23 @@ NO_NAME = {"let", "in", "where", "use", "open", "unfolding", "elim", "_"}
 GENERATED = re.compile(r"\b(tie|goal)\.")
 # Lemmas that had the spelling of a definition's new name already.
 FIRST = {"first_below": "first_below_lem", "other_width": "other_width_lem", "pair_line": "pair_line_lem"}
+
+# Where the rule would leave a dash or a part that is no word.
+APART = {
+    "getD-listBelow": "get_or-list_below",
+    "getD-padded": "get_or-padded",
+    "outbound-stretch": "outbound_stretch",
+    "inbound-stretch": "inbound_stretch",
+    "outbound-short": "outbound_short",
+    "inbound-short": "inbound_short",
+    "outbound-clear": "outbound_clear",
+    "inbound-clear": "inbound_clear",
+    "width-rows": "width_rows",
+    "short-distances": "short_distances",
+    "short-outbound": "short_outbound",
+    "short-inbound": "short_inbound",
+}
+ALIAS = re.compile(r"^\s*(?:ghost |pub )*use \S+ as (\w+)", re.M)
 
 # Names that port.py turned in the crates; here they are turned on the pages.
 PORTED = """
@@ -76,6 +93,8 @@ def snake(name):
 
 
 def spelled(name, definitions):
+    if name in APART:
+        return APART[name]
     if name.endswith("-spec"):
         return name.replace("-", "_")
     parts = name.split("-")
@@ -120,7 +139,7 @@ def gather():
     return renamed | first, names
 
 
-def turned(text, renamed, fields, comment):
+def turned(text, renamed, fields, comment, aliases=()):
     """The text with its names turned; in a comment, only those with a hump and those between backquotes. A page has None."""
     out, last, quoted = [], 0, 0
     for m in WORD.finditer(text):
@@ -130,6 +149,9 @@ def turned(text, renamed, fields, comment):
         word = m[0]
         new = renamed.get(word)
         after_dot = m.start() > 0 and text[m.start() - 1] == "."
+        module = re.search(r"(\w+)\.$", text[:m.start()]) if after_dot else None
+        if module and module[1] in aliases:
+            after_dot = False
         in_path = comment is None and (text[m.end():m.end() + 4] == ".txt" or text[m.start() - 1] == "/")
         if new is None or (after_dot and word not in fields) or in_path:
             new = word
@@ -140,11 +162,11 @@ def turned(text, renamed, fields, comment):
     return "".join(out)
 
 
-def code_line(line, mark, renamed, fields):
+def code_line(line, mark, renamed, fields, aliases):
     at = line.find(mark)
     if at < 0:
-        return turned(line, renamed, fields, False)
-    return turned(line[:at], renamed, fields, False) + turned(line[at:], renamed, fields, True)
+        return turned(line, renamed, fields, False, aliases)
+    return turned(line[:at], renamed, fields, False, aliases) + turned(line[at:], renamed, fields, True)
 
 
 def main():
@@ -164,7 +186,8 @@ def main():
         for path in files(ending, "crates"):
             old = read(path)
             map_here = renamed if ending == ".antt" else {a: b for a, b in renamed.items() if a not in FIRST}
-            new = "".join(code_line(line, mark, map_here, fields) for line in old.splitlines(True))
+            aliases = set(ALIAS.findall(old)) - {"tie", "goal"}
+            new = "".join(code_line(line, mark, map_here, fields, aliases) for line in old.splitlines(True))
             before = set(WORD.findall(old))
             for a, b in sorted(renamed.items()):
                 if a in before and b in before and a != b:
