@@ -9,7 +9,7 @@ use std::path::Path;
 
 /// The functions that a user calls, by their crate; those for C are found by their mark.
 const CALLS: [(&str, &[&str]); 8] = [
-    ("plans", &["plan_for", "equal", "outbound", "inbound", "platoons", "volumes"]),
+    ("plans", &["plan_for", "volumes"]),
     ("survey", &["read", "read_lists", "plan_for"]),
     ("cabinets", &["plan_for"]),
     ("bands", &["measure"]),

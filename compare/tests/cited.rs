@@ -96,7 +96,7 @@ fn a_contract_cites_what_it_names_and_a_step_what_it_uses() {
     let (folder, house) = house();
     let (called, missing) = house.contracts(&folder.0);
     assert_eq!(counts(&house.parts(&house.closure(&called))), [0, 2, 0]);
-    assert_eq!(missing.len(), 14, "{missing:?}");
+    assert_eq!(missing.len(), 10, "{missing:?}");
     let steps = house.closure(&house.all_of(&["high/specs/Steps.antt"]));
     assert_eq!(counts(&house.parts(&steps)), [2, 2, 2]);
 }

@@ -1,4 +1,5 @@
-//! One word, one thing: no name is defined in two files of specs/, and none that the code gives a struct or an enum.
+//! One word, one thing: no name is defined in two files of specs/, and none that the code gives a struct or an enum, but where the struct's
+//! model says that the definition is what it is seen as.
 
 use compare::run::{repository, text_at};
 use compare::specs::{crates, files_below, specs};
@@ -28,12 +29,14 @@ fn declares(line: &str) -> Option<String> {
     }
 }
 
-/// Every struct and enum of the code.
+/// Every struct and enum of the code, but those that are seen as the definition of their own name.
 fn declared() -> Places {
     let mut places = Places::new();
     for room in crates(repository()) {
         for file in files_below(&repository().join("crates").join(&room).join("src"), ".rt") {
-            for name in text_at(&file).lines().filter_map(declares) {
+            let code = text_at(&file);
+            let seen_as_itself = |name: &String| code.contains(&format!("ghost Value = {{ {name} }};"));
+            for name in code.lines().filter_map(declares).filter(|name| !seen_as_itself(name)) {
                 places.entry(name).or_default().insert(format!("the code of {room}"));
             }
         }

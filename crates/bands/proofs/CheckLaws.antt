@@ -1,6 +1,7 @@
 -- The order of a measure's checks. They find the same first fault whether the offsets' length is tested in its place or before all, since either fault of the count is one
 -- refusal; and with as many offsets as reds they are the checks of a plan that has room, and the offsets' own after them. Where that passed, every offset is on the cycle.
 -- Assumes nothing.
+use Rattle.std.specs.Prelude.{Ok}
 use Prim.Native.Nat.{ℕ, ◌-◌, ◌*◌}
 use mathlib.Core.Path.{◌≡◌, refl, ap, ◌∙◌}
 use mathlib.Core.Bool.{Bool, true, false}
@@ -16,9 +17,8 @@ use Rattle.road.specs.Limits.{min_signals, max_signals}
 use Rattle.street.specs.Lists.{Lists, signals}
 use Rattle.street.specs.Checks.{within, refuse, unless, or_next, first_fault, count_check, cycle_check, counts, number_checks, plan_checks}
 use Rattle.street.specs.declared.Code.TheVariants.{Count, Offset}
-use Rattle.street.specs.declared.Verdict.{Verdict}
+use Rattle.street.specs.Verdicts.{Verdict}
 use Rattle.street.proofs.Passed.{no_fault, street_then}
-use Rattle.street.specs.declared.Verdict.TheVariants as verdict
 use Rattle.bands.specs.Steps.{Placed}
 use Rattle.bands.specs.Measure.{size_check, bad_offset, offset_check, measure_checks}
 
@@ -49,7 +49,7 @@ module _ (l : Lists) (offsets : List ℕ) where
       ∙ street_then l (offset_check l.cycle offsets)
 
 -- the offsets' check passed: each is on the cycle
-pub placed_on : (s : Timed) (offsets : List ℕ) → length offsets ≡ s.signals → offset_check s.cycle offsets ≡ verdict.Passed → Placed s offsets
+pub placed_on : (s : Timed) (offsets : List ℕ) → length offsets ≡ s.signals → offset_check s.cycle offsets ≡ (Ok tt) → Placed s offsets
 unfolding offset_check
 placed_on s offsets count e =
     record {

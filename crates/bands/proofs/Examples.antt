@@ -1,5 +1,6 @@
 -- Measures worked out. On small cycles the definition computes, instant by instant: a table of them, with ties, a street with no band and refusals; and signals that rest. Row 14
 -- of document 01 has a cycle of 200 halves; there the stretches from 0 and from each direction's two candidates are worked out, and the best of them is the band. Assumes nothing.
+use Rattle.std.specs.Prelude.{Ok}
 use Prim.Native.Nat.{ℕ, zero, suc, ◌*◌, ◌≤◌, ◌<◌}
 use mathlib.Core.Path.{◌≡◌, refl, sym, ap, ◌∙◌}
 use mathlib.Core.List.{List, [], ◌∷◌, map}
@@ -13,9 +14,9 @@ use Rattle.circle.proofs.Stretches.{Proper, longest-least, end_at, from, IsBand,
 use Rattle.street.specs.Lists.{Lists, typed}
 use Rattle.street.specs.Checks.{count_check, cycle_check, red_check, distance_check, speed_check}
 use Rattle.street.specs.Streets.{timed}
-use Rattle.street.specs.declared.Verdict.TheVariants.{Passed}
 use Rattle.stretches.specs.declared.Band.{Band}
-use Rattle.bands.specs.Measure.{BandNumbers, band_numbers, size_check, offset_check, measure_checks, measured_of, found_or, measurement_of}
+use Rattle.bands.specs.Measure.{BandNumbers, band_numbers, size_check, offset_check, measure_checks, measured_of, measurement_of}
+use Rattle.street.specs.Verdicts.{answered}
 pub mod Ends
 
 -- a width and its start
@@ -127,13 +128,13 @@ in_band =
       each = of_two (λ i. 0 < in_a.length i → NoWorse 60 60 (from in_a i) (end_at in_a i)) (λ red. (omega arith, λ e. omega arith)) (λ red. (omega arith, λ e. omega arith));
     })
 
-checks_pass : measure_checks street_A offsets_A ≡ Passed
+checks_pass : measure_checks street_A offsets_A ≡ (Ok tt)
 unfolding measure_checks count_check size_check cycle_check red_check distance_check speed_check offset_check first_below
 checks_pass = refl
 
 pub row14 : band_numbers (measurement_of street_A offsets_A) ≡ found (band 60 40) (band 60 60)
 row14 =
-    ap (λ v. band_numbers (found_or v (measured_of (timed street_A) offsets_A))) checks_pass
+    ap (λ v. band_numbers (answered v (measured_of (timed street_A) offsets_A))) checks_pass
     ∙ (λ i.
     found
     (band (sym out_band.wide i) (sym out_band.starts i))

@@ -4,7 +4,7 @@ use Prim.Native.Nat.{ℕ}
 use mathlib.Core.Path.{◌≡◌, sym, ap, ◌∙◌}
 use mathlib.Core.List.{List}
 use Rattle.street.specs.Lists.{Lists}
-use Rattle.bands.specs.declared.Measurement.{Measurement}
+use Rattle.bands.specs.Measure.{Measurement}
 use Rattle.bands.specs.Measure.{band_numbers, measurement_of}
 
 module _ (l : Lists) (offsets : List ℕ) (r s : Measurement) (one : r ≡ measurement_of l offsets) (other : s ≡ measurement_of l offsets) where

@@ -1,5 +1,5 @@
 -- What `measure` answers (01, 'Measuring'): the first fault of its checks, or each direction's width and the smallest start that attains it, by the instants that are clear.
-use Rattle.std.specs.Prelude.{ℕ, ◌*◌, Bool, List, [], ◌∷◌, ◌++◌, length, get_or, leb, eqb}
+use Rattle.std.specs.Prelude.{ℕ, ◌*◌, Bool, List, [], ◌∷◌, ◌++◌, length, get_or, leb, eqb, Ok, Err, Result}
 use Rattle.circle.specs.Over.{first_below}
 use Rattle.circle.specs.Method.{Timed}
 use Rattle.circle.specs.Bands.{outbound_way, inbound_way}
@@ -8,13 +8,11 @@ use Rattle.street.specs.Codes.{code_of, place_of}
 use Rattle.street.specs.Checks.{unless, fault_at, first_fault, cycle_check, counts, number_checks}
 use Rattle.street.specs.Streets.{timed}
 use Rattle.street.specs.declared.Code.TheVariants.{Count, Offset}
-use Rattle.street.specs.declared.Verdict.{Verdict}
-use Rattle.street.specs.declared.Verdict.TheVariants as verdict
+use Rattle.street.specs.Verdicts.{Verdict, verdict_of, answered}
 use Rattle.stretches.specs.declared.Band.{Band}
 use Rattle.stretches.specs.Stretches.{band_of}
 use Rattle.bands.specs.declared.Measured.{Measured}
-use Rattle.bands.specs.declared.Measurement.{Measurement}
-use Rattle.bands.specs.declared.Measurement.TheVariants as measurement
+use Rattle.street.specs.declared.Refusal.{Refusal}
 
 -- 2 COUNT, for the list of offsets: it has one for each signal (01, 'Codes, in order of checking')
 unfoldable pub size_check : ℕ → ℕ → Verdict
@@ -36,6 +34,10 @@ measure_checks l offsets =
     ++ number_checks l
     ++ (offset_check l.cycle offsets ∷ []))
 
+-- the measure of a call, or its refusal
+abbrev pub Measurement : Type 0
+Measurement = Result Measured Refusal
+
 -- both directions' bands under given offsets, outbound counted at signal 1 and inbound at signal n (01, 'Measuring')
 abbrev pub measured_of : Timed → List ℕ → Measured
 measured_of s offsets =
@@ -44,14 +46,9 @@ measured_of s offsets =
       inbound = band_of (inbound_way s (λ j. get_or offsets j 0));
     }
 
--- a call's answer by the verdict of its checks: the refusal, or the measure where they passed (01, 'Codes, in order of checking')
-abbrev pub found_or : Verdict → Measured → Measurement
-found_or verdict.Passed measured = measurement.Found measured
-found_or (verdict.Refused f) measured = measurement.Refused f
-
 -- the answer to a street's lists and offsets: the first fault there is, or the bands at rounded times (01, 'Measuring')
 abbrev pub measurement_of : Lists → List ℕ → Measurement
-measurement_of l offsets = found_or (measure_checks l offsets) (measured_of (timed l) offsets)
+measurement_of l offsets = answered (measure_checks l offsets) (measured_of (timed l) offsets)
 
 -- an answer in numbers: the code and place of a refusal, and each band's width and start (01, 'Measuring' and 'Codes, in order of checking')
 pub record BandNumbers : Type 0 where
@@ -64,17 +61,12 @@ pub record BandNumbers : Type 0 where
 abbrev pub no_band : Band
 no_band = record { width = 0; start = 0 }
 
--- what the checks of an answered call came to (01, 'Codes, in order of checking')
-abbrev pub band_verdict : Measurement → Verdict
-band_verdict (measurement.Found measured) = verdict.Passed
-band_verdict (measurement.Refused f) = verdict.Refused f
-
--- and the bands, if there are any
+-- the bands of an answer, if there are any
 abbrev pub bands_of : Measurement → Measured
-bands_of (measurement.Found measured) = measured
-bands_of (measurement.Refused f) = record { outbound = no_band; inbound = no_band }
+bands_of (Ok measured) = measured
+bands_of (Err f) = record { outbound = no_band; inbound = no_band }
 
 -- a measure has code and place 0, a refusal has no width and no start (01, 'Codes, in order of checking')
 abbrev pub band_numbers : Measurement → BandNumbers
 band_numbers a =
-    record { code = code_of (band_verdict a); place = place_of (band_verdict a); outbound = (bands_of a).outbound; inbound = (bands_of a).inbound }
+    record { code = code_of (verdict_of a); place = place_of (verdict_of a); outbound = (bands_of a).outbound; inbound = (bands_of a).inbound }

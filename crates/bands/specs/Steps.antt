@@ -2,7 +2,7 @@
 -- A direction is its lags; seen from where it departs, a street is its reds' lengths and the instants at which they end.
 use Rattle.std.specs.Prelude.{ℕ, ◌+◌, ◌-◌, ◌*◌, ◌<◌, ◌≡◌, List, pos, ◌-ℤ◌, length, get_or}
 use Rattle.circle.specs.Man.{man}
-use Rattle.circle.specs.Method.{Timed, halves}
+use Rattle.circle.specs.Method.{Timed, halves, red_start}
 use Rattle.circle.specs.Bands.{Way}
 use Rattle.stretches.specs.Steps.{seen_by}
 use Rattle.bands.specs.declared.Direction.{Direction}
@@ -16,6 +16,17 @@ lag_by Inbound out back last = 2 * (last - back)
 -- the same at signal j of a street (01, 'Red, departure, band')
 abbrev pub lag_of : Direction → Timed → ℕ → ℕ
 lag_of direction s j = lag_by direction (s.outbound j) (s.inbound j) (s.inbound (s.signals - 1))
+
+-- a direction's way under given offsets
+abbrev pub way_of : Direction → Timed → List ℕ → Way
+way_of direction s offsets =
+    record {
+      around = halves s;
+      signals = s.signals;
+      start = λ j. red_start s j (get_or offsets j 0);
+      length = λ j. 2 * s.red j;
+      lag = lag_of direction s;
+    }
 
 -- the instant, at the departure signal, of the car that comes to signal j as its red ends: the red's end is the offset and the red together (01, 'Red, departure, band')
 abbrev pub end_of : Direction → Timed → List ℕ → ℕ → ℕ

@@ -1,8 +1,8 @@
 // Where each red ends, seen from where a direction departs: the instant there of the car that comes to the signal as its red ends,
 // reduced to the cycle once.
-ghost use Rattle.std.specs.Prelude.{◌≡◌, ◌≤◌, length};
+ghost use Rattle.std.specs.Prelude.{◌≡◌, ◌≤◌};
 ghost use Rattle.road.specs.Steps.{max_time};
-ghost use Rattle.street.specs.Steps.{timed_by, Sound};
+ghost use Rattle.street.specs.Steps.{timed_street};
 ghost use Rattle.bands.specs.Steps.{lag_by, Placed, Ended};
 
 use crate::Direction;
@@ -20,27 +20,17 @@ fn lag(direction: Direction, out: u32, back: u32, last: u32) -> u32
     }
 }
 
-// Writes every signal's red end into the first entries.
-pub fn ends(
-    cycle: u32,
-    n: usize,
-    reds: &[u32; Street::MAX_SIGNALS],
-    outbound: &[u32; Street::MAX_SIGNALS],
-    inbound: &[u32; Street::MAX_SIGNALS],
-    offsets: &[u32],
-    direction: Direction,
-    all: &mut [u32; Street::MAX_SIGNALS],
-)
-    requires { Sound (timed_by cycle n reds.now outbound.now inbound.now) × Placed (timed_by cycle n reds.now outbound.now inbound.now) offsets.now × (n ≤ length all.old) }
-    ensures { Ended direction (timed_by cycle n reds.now outbound.now inbound.now) offsets.now all.new }
+// Every signal's red end, under given offsets.
+pub fn ends(s: &Street, offsets: &[u32], direction: Direction) -> [u32; Street::MAX_SIGNALS]
+    requires { Placed (timed_street s.now) offsets.now }
+    ensures { Ended direction (timed_street s.now) offsets.now result }
 {
-    let count = street::bounded(n);
-    let h = 2 * cycle;
-    let last = inbound[n - 1];
-    let mut j: usize = 0;
-    while j < count {
-        let after = lag(direction, outbound[j], inbound[j], last);
-        all[j] = circle::remainder(h, offsets[j] + reds[j], after);
-        j += 1;
+    let h = 2 * s.cycle;
+    let last = s.road.inbound[s.road.signals - 1];
+    let mut all = [0; Street::MAX_SIGNALS];
+    for j in 0..street::bounded(s.road.signals) {
+        let after = lag(direction, s.road.outbound[j], s.road.inbound[j], last);
+        all[j] = circle::remainder(h, offsets[j] + s.reds[j], after);
     }
+    all
 }

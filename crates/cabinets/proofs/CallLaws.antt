@@ -1,5 +1,6 @@
 -- What the call's parts come to: the checks are the plan's, with one more after the opening; and an answer with a plan leaves the
 -- plan's offsets, which become seconds. Assumes nothing.
+use Rattle.std.specs.Prelude.{Ok, Err}
 use Prim.Native.Nat.{ℕ, ◌*◌, ◌≤◌, ◌<◌}
 use mathlib.Core.Path.{◌≡◌, refl, sym, ap, ap₂, ◌∙◌}
 use mathlib.Core.List.{List, [], ◌∷◌, ◌++◌}
@@ -13,18 +14,18 @@ use Rattle.street.specs.Lists.{Lists, signals}
 use Rattle.street.specs.Checks.{or_next, first_fault, opening_checks, number_checks, plan_checks, written}
 use Rattle.street.specs.Streets.{timed, m}
 use Rattle.street.specs.declared.Refusal.{Refusal}
-use Rattle.street.specs.declared.Verdict.{Verdict}
-use Rattle.street.specs.declared.Verdict.TheVariants.{Passed, Refused}
+use Rattle.street.specs.Verdicts.{Verdict}
 use Rattle.street.proofs.Passed.{in_limits, first_of_both}
+use Rattle.street.proofs.Sound.{answer_tells}
 use Rattle.widths.specs.Checks.{request_check}
 use Rattle.widths.specs.Moved.{shift_of}
 use Rattle.widths.specs.declared.Request.{Request}
 use Rattle.offsets.specs.Moved.{moved_offset}
-use Rattle.plans.specs.Answers.{plan_verdict, plan_numbers, answered}
+use Rattle.plans.specs.Answers.{plan_numbers}
+use Rattle.street.specs.Verdicts.{verdict_of, answered}
 use Rattle.plans.specs.Requests.{moved_plan, request_checks, Requested}
 use Rattle.plans.specs.declared.Plan.{Plan}
-use Rattle.plans.specs.declared.Answer.{Answer}
-use Rattle.plans.specs.declared.Answer.TheVariants as answer
+use Rattle.plans.specs.Answers.{Answer}
 use Rattle.plans.proofs.Unique.{offsets_below}
 use Rattle.promises.proofs.Replies.Calls.{Told, reply_told}
 use Rattle.seconds.specs.Seconds.{seconds_check, second_of}
@@ -33,8 +34,8 @@ use Rattle.cabinets.specs.Calls.{seconds_of, seconds_checks, InSeconds}
 
 -- verdicts in a row, however they are put together
 in_a_row : (u v w : Verdict) → or_next u (or_next v w) ≡ or_next (or_next u v) w
-in_a_row Passed v w = refl
-in_a_row (Refused f) v w = refl
+in_a_row (Ok tt) v w = refl
+in_a_row (Err f) v w = refl
 
 -- the checks by what the opening came to, and by what 13 did
 module _ (request : Request) (l : Lists) (room : ℕ) where
@@ -47,25 +48,25 @@ module _ (request : Request) (l : Lists) (room : ℕ) where
   in_turn v w opened whole =
       ap₂ (λ a b. or_next a (or_next b (first_fault rest))) opened whole ∙ first_of_both (opening_checks l room) (seconds_check l.cycle ∷ rest)
 
-  pub opening_refused : (v : Verdict) (f : Refusal) → v ≡ first_fault (opening_checks l room) → v ≡ Refused f → seconds_checks request l room ≡ Refused f
-  opening_refused v f opened e = sym (in_turn (Refused f) (seconds_check l.cycle) (sym e ∙ opened) refl)
+  pub opening_refused : (v : Verdict) (f : Refusal) → v ≡ first_fault (opening_checks l room) → v ≡ Err f → seconds_checks request l room ≡ Err f
+  opening_refused v f opened e = sym (in_turn (Err f) (seconds_check l.cycle) (sym e ∙ opened) refl)
 
-  pub second-refused : (v w : Verdict) (f : Refusal) → v ≡ first_fault (opening_checks l room) → v ≡ Passed → w ≡ seconds_check l.cycle → w ≡ Refused f → seconds_checks request l room ≡ Refused f
-  second-refused v w f opened on whole e = sym (in_turn Passed (Refused f) (sym on ∙ opened) (sym e ∙ whole))
+  pub second-refused : (v w : Verdict) (f : Refusal) → v ≡ first_fault (opening_checks l room) → v ≡ (Ok tt) → w ≡ seconds_check l.cycle → w ≡ Err f → seconds_checks request l room ≡ Err f
+  second-refused v w f opened on whole e = sym (in_turn (Ok tt) (Err f) (sym on ∙ opened) (sym e ∙ whole))
 
   -- where 13 passed they are the plan's
-  pub as_plan : seconds_check l.cycle ≡ Passed → seconds_checks request l room ≡ request_checks request l room
+  pub as_plan : seconds_check l.cycle ≡ (Ok tt) → seconds_checks request l room ≡ request_checks request l room
   unfolding rest plan_checks
   as_plan whole =
       let opening = first_fault (opening_checks l room) in
       let asks = first_fault (request_check request (timed l) ∷ []) in
-      sym (in_turn opening Passed refl (sym whole))
+      sym (in_turn opening (Ok tt) refl (sym whole))
       ∙ ap (or_next opening) (sym (first_of_both (number_checks l) (request_check request (timed l) ∷ [])))
       ∙ in_a_row opening (first_fault (number_checks l)) asks
       ∙ ap (λ v. or_next v asks) (first_of_both (opening_checks l room) (number_checks l))
 
 -- a refusal leaves the list as it was
-pub all_refused : (request : Request) (l : Lists) (entry : List ℕ) (f : Refusal) → seconds_checks request l (length entry) ≡ Refused f → InSeconds request l entry entry (answer.Refused f)
+pub all_refused : (request : Request) (l : Lists) (entry : List ℕ) (f : Refusal) → seconds_checks request l (length entry) ≡ Err f → InSeconds request l entry entry (Err f)
 all_refused request l entry f e =
     let s = timed l in
     let shift = shift_of request s in
@@ -74,28 +75,23 @@ all_refused request l entry f e =
       after = sym (ap (λ v. written v (list_below (signals l) (seconds_of 0 s (moved_offset shift s))) entry) e);
     }
 
--- an answer tells what the checks came to
-judged : (v : Verdict) (p : Plan) → plan_verdict (answered v p) ≡ v
-judged Passed p = refl
-judged (Refused f) p = refl
-
 -- the plan's own answer, where the checks are the plan's
 module _
     (request : Request) (l : Lists) (entry mid : List ℕ) (a : Answer) (call : Requested request l entry mid a)
     (same : seconds_checks request l (length entry) ≡ request_checks request l (length entry))
   where
-    verdict_of : request_checks request l (length entry) ≡ plan_verdict a
-    verdict_of =
-        sym (judged (request_checks request l (length entry)) (moved_plan (shift_of request (timed l)) (timed l) (m l))) ∙ sym (ap plan_verdict call.reply)
+    checked : request_checks request l (length entry) ≡ verdict_of a
+    checked =
+        sym (answer_tells (request_checks request l (length entry)) (moved_plan (shift_of request (timed l)) (timed l) (m l))) ∙ sym (ap verdict_of call.reply)
 
-    pub plan-refused : (f : Refusal) → a ≡ answer.Refused f → InSeconds request l entry mid (answer.Refused f)
+    pub plan-refused : (f : Refusal) → a ≡ Err f → InSeconds request l entry mid (Err f)
     plan-refused f e =
-        let refused = verdict_of ∙ ap plan_verdict e in
+        let refused = checked ∙ ap verdict_of e in
         let kept = call.after ∙ ap (λ v. written v (list_below (signals l) (moved_offset (shift_of request (timed l)) (timed l))) entry) refused in
         let all = all_refused request l entry f (same ∙ refused) in
         record { reply = all.reply; after = kept ∙ all.after }
 
-    module _ (p : Plan) (planned : a ≡ answer.Planned p) where
+    module _ (p : Plan) (planned : a ≡ Ok p) where
       told : Told l (length entry) (shift_of request (timed l)) mid a
       told = reply_told request l entry mid a call (ap (λ x. (plan_numbers x).code) planned)
 
@@ -113,12 +109,12 @@ module _
 
       pub plan_converted :
           (exit : List ℕ) → exit ≡ list_below (signals l) (λ j. second_of l.cycle 0 (get_or mid j 0) (get_or l.reds j 0)) ++ drop (signals l) mid →
-          InSeconds request l entry exit (answer.Planned p)
+          InSeconds request l entry exit (Ok p)
       plan_converted exit converted =
           let s = timed l in
           let n = signals l in
           let shift = shift_of request s in
-          let passed = verdict_of ∙ ap plan_verdict planned in
+          let passed = checked ∙ ap verdict_of planned in
           let offsets = list_below n (moved_offset shift s) in
           let seconds = list_below n (seconds_of 0 s (moved_offset shift s)) in
           let count = length_list_below n (moved_offset shift s) in

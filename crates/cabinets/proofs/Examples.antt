@@ -9,7 +9,7 @@ use Rattle.circle.specs.Moved.{g, in_range, chosen, outbound_lowering, lowered, 
 use Rattle.street.specs.Lists.{typed}
 use Rattle.street.specs.Codes.{code_of, place_of}
 use Rattle.street.specs.Checks.{count_check, room_check, cycle_check, red_check, distance_check, speed_check}
-use Rattle.street.specs.declared.Verdict.{Verdict}
+use Rattle.street.specs.Verdicts.{Verdict}
 use Rattle.widths.specs.Checks.{width_check}
 use Rattle.widths.specs.declared.Request.TheVariants.{Equal, Outbound}
 use Rattle.promises.specs.Rows.{two_signals, street_A, crossing, lent, plan}

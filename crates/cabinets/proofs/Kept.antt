@@ -1,5 +1,6 @@
 -- The promises of a reply and of the seconds beside it. Code 0 is given only where every check passed; then the reply is a plan's, and each entry is the second of the plan's own offset. So each red starts
 -- 10 halves less some η of 0 to 19 after the plan's, and the named bands keep what is left. Assumes nothing.
+use Rattle.std.specs.Prelude.{Ok}
 use Prim.Native.Nat.{ℕ, ◌+◌, ◌-◌, ◌*◌, ◌≤◌, ◌<◌}
 use mathlib.Core.Path.{◌≡◌, refl, sym, ap, subst, ◌∙◌}
 use mathlib.Core.List.{List, [], ◌∷◌, ◌++◌}
@@ -11,16 +12,16 @@ use Rattle.circle.proofs.Formulas.{reference_lt}
 use Rattle.street.specs.Lists.{Lists, signals}
 use Rattle.street.specs.Checks.{first_fault, opening_checks, number_checks, plan_checks}
 use Rattle.street.specs.Streets.{timed, m}
-use Rattle.street.specs.declared.Verdict.TheVariants.{Passed}
 use Rattle.street.proofs.Passed.{first_passed, rest_passed, first_of_both}
 use Rattle.widths.specs.Checks.{request_check}
 use Rattle.widths.specs.Moved.{shift_of, outbound_width, inbound_width}
 use Rattle.widths.specs.declared.Request.{Request}
 use Rattle.widths.specs.declared.Shift.{Shift}
 use Rattle.offsets.specs.Moved.{moved_offset}
-use Rattle.plans.specs.Answers.{plan_numbers, answered}
+use Rattle.plans.specs.Answers.{plan_numbers}
+use Rattle.street.specs.Verdicts.{answered}
 use Rattle.plans.specs.Requests.{moved_plan, request_after}
-use Rattle.plans.specs.declared.Answer.{Answer}
+use Rattle.plans.specs.Answers.{Answer}
 use Rattle.promises.specs.Exact.{exact_ways}
 use Rattle.promises.proofs.Streets.Passing.{fit, rising}
 use Rattle.promises.proofs.Streets.Directions.{way_in, Near, ways_by, near_rounded, near_exact}
@@ -35,8 +36,8 @@ use Rattle.cabinets.proofs.Nudged.{Nudges, Band, band}
 
 -- what a reply with code 0 and the lent list say: the cycle is a whole number of seconds, the reply is that of a plan, and the entries are its offsets' seconds
 pub record Said (l : Lists) (room : ℕ) (shift : Shift) (exit : List ℕ) (r : Answer) : Type 0 where
-  pub whole : seconds_check l.cycle ≡ Passed
-  pub passed : plan_checks l room ≡ Passed
+  pub whole : seconds_check l.cycle ≡ (Ok tt)
+  pub passed : plan_checks l room ≡ (Ok tt)
   pub range : InRange (timed l) shift
   pub numbers : moved_plan shift (timed l) (m l) ≡ (plan_numbers r).plan
   pub seconds : (j : ℕ) → j < signals l → get_or exit j 0 ≡ seconds_of 0 (timed l) (moved_offset shift (timed l)) j
@@ -51,7 +52,7 @@ reply_said asked l entry exit r call code =
     let plan = moved_plan shift s (m l) in
     let v = seconds_checks asked l room in
     let rest = seconds_check l.cycle ∷ (number_checks l ++ (request_check asked s ∷ [])) in
-    let all : v ≡ Passed = planned v plan (ap (λ a. (plan_numbers a).code) (sym call.reply) ∙ code) in
+    let all : v ≡ (Ok tt) = planned v plan (ap (λ a. (plan_numbers a).code) (sym call.reply) ∙ code) in
     let both = first_of_both (opening_checks l room) rest ∙ all in
     let whole = first_passed (seconds_check l.cycle) _ (rest_passed (first_fault (opening_checks l room)) (first_fault rest) both) in
     let reply = call.reply ∙ ap (λ w. answered w plan) (as_plan asked l room whole) in

@@ -1,5 +1,6 @@
 -- The measure of the offsets that the cabinets keep. They are instants of the cycle, so that no check refuses them; and the width that it finds is the one that is promised at rounded times, in whole halves.
 -- Assumes nothing.
+use Rattle.std.specs.Prelude.{Ok}
 use Prim.Native.Nat.{ℕ, ◌+◌, ◌-◌, ◌*◌, ◌≤◌, ◌<◌}
 use mathlib.Core.Path.{◌≡◌, refl, sym, ap, subst, ◌∙◌}
 use mathlib.Core.List.{List, [], append-nil}
@@ -14,9 +15,9 @@ use Rattle.circle.proofs.Numbers.{get_or-list_below, length_list_below, man_lt}
 use Rattle.circle.proofs.Stretches.{width_alike}
 use Rattle.street.specs.Lists.{signals}
 use Rattle.street.specs.Streets.{timed}
-use Rattle.street.specs.declared.Verdict.TheVariants.{Passed}
 use Rattle.plans.specs.Answers.{plan_numbers}
-use Rattle.bands.specs.Measure.{measured_of, found_or, measurement_of, band_numbers}
+use Rattle.bands.specs.Measure.{measured_of, measurement_of, band_numbers}
+use Rattle.street.specs.Verdicts.{answered}
 use Rattle.promises.proofs.Streets.Passing.{fit}
 use Rattle.promises.proofs.Replies.Measures.{accepted}
 use Rattle.seconds.specs.Seconds.{second_halves}
@@ -61,6 +62,6 @@ seconds_measured asked l entry exit r call code =
     let less : (j : ℕ) → j < signals l → get_or offsets j 0 < 2 * l.cycle =
     λ j h. omega (arith, entry_is (signals l) g j h, man_lt (2 * l.cycle) (pos (second_halves * get_or exit j 0) -ℤ pos (get_or l.reds j 0)) around) in
     let all = accepted l (length entry) said.passed offsets (length_list_below (signals l) g) less in
-    let found : band_numbers (found_or Passed (measured_of s offsets)) ≡ band_numbers (measurement_of l offsets) = ap (λ v. band_numbers (found_or v (measured_of s offsets))) (sym all) in
+    let found : band_numbers (answered (Ok tt) (measured_of s offsets)) ≡ band_numbers (measurement_of l offsets) = ap (λ v. band_numbers (answered v (measured_of s offsets))) (sym all) in
     subst (λ n. (n.code ≡ 0) × (p.outbound ≤ n.outbound.width + 19) × (p.inbound ≤ n.inbound.width + 19)) found
     (refl, omega (arith, kept.loses.outbound_short, out), omega (arith, kept.loses.inbound_short, back))

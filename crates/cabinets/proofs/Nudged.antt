@@ -1,5 +1,6 @@
 -- Reds that start later by up to 10 halves or sooner by up to 9, and lags near the rounded ones, in one use of the law of perturbation: each red moved by 10 halves less some η of 0 to 19, each lag by its
 -- place in the window, so that together the amounts lie in a window of 19 halves and r. What is left of a named band starts 10 halves and the reference's own place in the window after it. Assumes nothing.
+use Rattle.std.specs.Prelude.{Ok}
 use Prim.Native.Nat.{ℕ, zero, suc, ◌+◌, ◌-◌, ◌*◌, ◌≤◌, ◌<◌}
 use mathlib.Core.Path.{◌≡◌, refl, ap, subst}
 use mathlib.Core.Bool.{true}
@@ -15,7 +16,6 @@ use Rattle.circle.proofs.Bands.{Named, meets, finer_passes, fit_scaled}
 use Rattle.street.specs.Lists.{Lists, signals}
 use Rattle.street.specs.Checks.{plan_checks}
 use Rattle.street.specs.Streets.{timed}
-use Rattle.street.specs.declared.Verdict.TheVariants.{Passed}
 use Rattle.promises.specs.Replies.{into_band}
 use Rattle.promises.proofs.Streets.Passing.{fit}
 use Rattle.promises.proofs.Streets.Directions.{way_in, Direction}
@@ -40,7 +40,7 @@ unfolding stretch all_below
 nothing w x N = let none : N * 0 ≡ 0 = omega arith in ap (λ (k : ℕ). stretch w x k) none
 
 module _
-    (l : Lists) (room : ℕ) (passed : plan_checks l room ≡ Passed) (N r : ℕ) (fine : 0 < N) {coarse rounded near : ℕ → ℕ} (d : Direction l N r coarse rounded near)
+    (l : Lists) (room : ℕ) (passed : plan_checks l room ≡ (Ok tt)) (N r : ℕ) (fine : 0 < N) {coarse rounded near : ℕ → ℕ} (d : Direction l N r coarse rounded near)
     (f g : ℕ → ℕ) (nudges : (j : ℕ) → j < signals l → Nudges l f g j)
   where
     proper : (h : ℕ → ℕ) (lag : ℕ → ℕ) → Proper (way_in l N h lag)

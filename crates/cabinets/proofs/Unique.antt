@@ -7,9 +7,9 @@ use Rattle.street.specs.Streets.{timed, m}
 use Rattle.street.proofs.Unique.{Same, same}
 use Rattle.widths.specs.Moved.{shift_of}
 use Rattle.widths.specs.declared.Request.{Request}
-use Rattle.plans.specs.Answers.{answered}
+use Rattle.street.specs.Verdicts.{answered}
 use Rattle.plans.specs.Requests.{moved_plan}
-use Rattle.plans.specs.declared.Answer.{Answer}
+use Rattle.plans.specs.Answers.{Answer}
 use Rattle.cabinets.specs.Calls.{InSeconds}
 use Rattle.cabinets.specs.Kept.{PlansOwn}
 use Rattle.cabinets.proofs.CallLaws.{as_plan}

@@ -5,14 +5,14 @@ use Rattle.circle.specs.Method.{Timed}
 use Rattle.street.specs.Lists.{Lists, signals}
 use Rattle.street.specs.Checks.{first_fault, opening_checks, number_checks, written}
 use Rattle.street.specs.Streets.{timed, m}
-use Rattle.street.specs.declared.Verdict.{Verdict}
+use Rattle.street.specs.Verdicts.{Verdict}
 use Rattle.widths.specs.Checks.{request_check}
 use Rattle.widths.specs.Moved.{shift_of}
 use Rattle.widths.specs.declared.Request.{Request}
 use Rattle.offsets.specs.Moved.{moved_offset}
-use Rattle.plans.specs.Answers.{answered}
+use Rattle.street.specs.Verdicts.{answered}
 use Rattle.plans.specs.Requests.{moved_plan}
-use Rattle.plans.specs.declared.Answer.{Answer}
+use Rattle.plans.specs.Answers.{Answer}
 use Rattle.seconds.specs.Seconds.{seconds_check, second_of}
 
 -- the seconds of given offsets on a street, by the signal's index

@@ -1,15 +1,14 @@
 -- What the cabinets keep of a plan (02, 2026-06): of the numbers in every reply with code 0 that the call's contract allows, and of the seconds that the call leaves in the lent list. A start of green moves
 -- by 9 halves down to 10 up, so a named band can lose 10 halves at its start and 9 at its end: 19, which is within the 20 that the request asks; and at exact times m halves more.
-use Rattle.std.specs.Prelude.{ℕ, ◌+◌, ◌-◌, ◌*◌, ◌≤◌, ◌<◌, ◌≡◌, true, List, pos, ◌-ℤ◌, get_or}
+use Rattle.std.specs.Prelude.{ℕ, ◌+◌, ◌-◌, ◌*◌, ◌≤◌, ◌<◌, ◌≡◌, true, List, pos, ◌-ℤ◌, get_or, Ok}
 use Rattle.circle.specs.Man.{man}
 use Rattle.circle.specs.Over.{list_below}
 use Rattle.circle.specs.Bands.{Way, clear, stretch, width}
 use Rattle.street.specs.Lists.{Lists, signals}
-use Rattle.street.specs.declared.Verdict.TheVariants.{Passed}
 use Rattle.widths.specs.declared.Request.{Request}
 use Rattle.plans.specs.Answers.{plan_numbers}
 use Rattle.plans.specs.Requests.{request_answer}
-use Rattle.plans.specs.declared.Answer.{Answer}
+use Rattle.plans.specs.Answers.{Answer}
 use Rattle.plans.specs.declared.Plan.{Plan}
 use Rattle.bands.specs.Measure.{measurement_of, band_numbers}
 use Rattle.promises.specs.Exact.{Fine, Ways, rounded_ways, exact_ways}
@@ -76,4 +75,4 @@ SecondsMeasured =
 
 -- 5. At a cycle of whole seconds the reply is the plan's own, refusals too
 abbrev pub PlansOwn : Type 0
-PlansOwn = (request : Request) (l : Lists) (room : ℕ) → seconds_check l.cycle ≡ Passed → seconds_answer request l room ≡ request_answer request l room
+PlansOwn = (request : Request) (l : Lists) (room : ℕ) → seconds_check l.cycle ≡ (Ok tt) → seconds_answer request l room ≡ request_answer request l room

@@ -1,9 +1,8 @@
 // What a circle of time is: remainders, choices over signals, and the published method's widths over any cycle, reds and times. specs/
-// has the definitions and proofs/ the laws about them; the code is the two ways to go back on a circle, with a division and without,
-// and the choices between two numbers.
+// has the definitions and proofs/ the laws about them; the code is the two ways to go back on a circle, with a division and without.
 #![tactic(auto)]
 
-ghost use Rattle.std.specs.Prelude.{◌+◌, ◌-◌, ◌≤◌, ◌<◌, ◌^◌, min, max, ◌≡◌, pos, ◌-ℤ◌};
+ghost use Rattle.std.specs.Prelude.{◌+◌, ◌-◌, ◌≤◌, ◌<◌, ◌^◌, ◌≡◌, pos, ◌-ℤ◌};
 ghost use Rattle.circle.specs.Man.{man};
 
 // The remainder of a - b by h, in 0 to h - 1.
@@ -19,38 +18,5 @@ pub fn back(h: u32, a: u32, b: u32) -> u32
     requires { (a < h) × (b < h) × (a + h < 2 ^ 32) }
     ensures { result ≡ man h (pos a -ℤ pos b) }
 {
-    if b <= a {
-        return a - b;
-    }
-    a + h - b
-}
-
-// The smaller of two numbers.
-pub fn smaller(a: u32, b: u32) -> u32
-    ensures { result ≡ min a b }
-{
-    if a <= b {
-        return a;
-    }
-    b
-}
-
-// The larger of two numbers.
-pub fn larger(a: u32, b: u32) -> u32
-    ensures { result ≡ max a b }
-{
-    if a <= b {
-        return b;
-    }
-    a
-}
-
-// What a has over b, or nothing.
-pub fn surplus(a: u32, b: u32) -> u32
-    ensures { result ≡ a - b }
-{
-    if a < b {
-        return 0;
-    }
-    a - b
+    if b <= a { a - b } else { a + h - b }
 }

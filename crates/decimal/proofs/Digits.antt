@@ -71,16 +71,30 @@ next_digit x d low digit small =
     let r : (10 * x + d) % 10 ≡ d = omega arith in
     decimal-more (10 * x + d) small (omega arith) ∙ rw (q, r)
 
--- a number of 32 bits has one digit to ten
-pub decimal_some : (x : ℕ) → 1 ≤ length (decimal x)
-decimal_some x =
-    by_size x 10
-    (λ s. rw (one_digit 19 x s) (omega arith))
-    (λ m. rw (more_digits 19 x m) (simp length-append (omega arith)))
-
 -- below ten to the k + 1 there are at most k + 1 digits
 pub at_most : (k x : ℕ) → x < 2 ^ 32 → x < 10 ^ suc k → length (decimal x) ≤ suc k
 at_most k x small h = rw (places 19 k x (omega arith) h) (few (suc k) x)
 
 pub decimal-ten : (x : ℕ) → x < 2 ^ 32 → length (decimal x) ≤ 10
 decimal-ten x h = at_most 9 x h (omega arith)
+
+-- a number's last k digits, with zeros before it where it has fewer
+unfoldable pub last_digits : ℕ → ℕ → List ℕ
+last_digits zero x = []
+last_digits (suc k) x = last_digits k (x / 10) ++ (48 + x % 10) ∷ []
+
+-- and as many as it has are all of them
+pub last_are_all : (k x : ℕ) → digits_up_to k x ≡ last_digits (length (digits_up_to k x)) x
+unfolding digits_up_to last_digits
+last_are_all zero x = refl
+last_are_all (suc k) x =
+    by_size x 10
+    (λ s. rw (one_digit k x s) (let e : x % 10 ≡ x = omega arith in rw e refl))
+    (λ m.
+    let e : length (digits_up_to (suc k) x) ≡ suc (length (digits_up_to k (x / 10))) = rw (more_digits k x m) (simp length-append (omega arith)) in
+    rw e (more_digits k x m ∙ ap (λ (d : List ℕ). d ++ (48 + x % 10) ∷ []) (last_are_all k (x / 10))))
+
+pub length-last_digits : (k x : ℕ) → length (last_digits k x) ≡ k
+unfolding last_digits
+length-last_digits zero x = refl
+length-last_digits (suc k) x = simp length-append (omega (arith, length-last_digits k (x / 10)))

@@ -3,12 +3,11 @@
 -- there are. A loop that writes part after part keeps what of the whole is unwritten. Assumes nothing.
 use Prim.Native.Nat.{ℕ, suc, ◌+◌, ◌≤◌, ◌<◌}
 use native.Mathlib.Nat.{add-zero, add_assoc}
-use native.Mathlib.Numerals.{add-one}
 use native.Mathlib.Omega.{arith}
 use mathlib.Core.Path.{◌≡◌, refl, sym, ap, ap₂, ◌∙◌}
 use mathlib.Core.List.{List, [], ◌∷◌, ◌++◌, append_assoc, append-nil}
 use lib.ListN.{length, take, drop, set, length-append, length-drop, take-append-drop}
-use lib.Seq.{lt-length-set, length-take-le, take_at, drop_at, drop-drop, drop-cons, drop-set-lt, take-set-le, get_or-set_same, append_snoc, set_split}
+use lib.Seq.{lt-length-set, length-take-le, take_at, drop_at, drop-drop, drop-cons, drop-set-lt, take-set-le, get_or-set_same, append_snoc}
 use Rattle.decimal.specs.Steps.{overwritten, Writes}
 
 -- nothing written
@@ -39,10 +38,6 @@ last-first at d more l room =
       append_snoc (take at l ++ more) d (drop (suc i) l),
     )
 
--- and a byte alone
-pub overwritten_byte : (at d : ℕ) (l : List ℕ) → at < length l → set l at d ≡ overwritten at (d ∷ []) l
-overwritten_byte at d l room = rw (append_assoc, add-one, set_split l at d room)
-
 -- where a is written, b goes on
 module _ (at : ℕ) (a b l : List ℕ) (within : at ≤ length l) where
   front : length (take at l ++ a) ≡ at + length a
@@ -61,10 +56,6 @@ module _ (at : ℕ) (a b l : List ℕ) (within : at ≤ length l) where
         past,
         append_assoc (take at l) a b,
       )
-
--- one store, where the place is the list's
-pub writes_byte : (at b : ℕ) (l : List ℕ) → at < length l → Writes at (b ∷ []) l (set l at b) (at + 1)
-writes_byte at b l room = record { after = overwritten_byte at b l room; next = refl }
 
 -- a step leaves as many bytes as there were
 pub writes_length : {at n : ℕ} {a l l' : List ℕ} → at + length a ≤ length l → Writes at a l l' n → length l' ≡ length l
@@ -90,16 +81,6 @@ pub writes_twice :
     → Writes at (a ++ b) l l'' r
 writes_twice {a} {b} within first second =
     record { after = second.after ∙ goes_on b first within; next = simp length-append (omega arith) }
-
--- a step and one byte behind it
-pub writes_ended :
-    {at n : ℕ} {a l l' : List ℕ} (end : ℕ)
-    → at + length (a ++ end ∷ []) ≤ length l
-    → Writes at a l l' n
-    → Writes at (a ++ end ∷ []) l (set l' n end) (n + 1)
-writes_ended {n} {l'} end room first =
-    let there : n < length l' = omega (arith, room_left (end ∷ []) first room) in
-    writes_twice (omega arith) first (writes_byte n end l' there)
 
 -- the same bytes, grouped otherwise
 pub writes_as : {at r : ℕ} {a b l l' : List ℕ} → a ≡ b → Writes at a l l' r → Writes at b l l' r

@@ -6,14 +6,9 @@ ghost use Rattle.decimal.specs.Decimal.{decimal, signed_decimal};
 ghost use Rattle.decimal.specs.Steps.{Writes};
 
 // The bytes that end a number: within a line and at its end.
-pub const SPACE: u8 = 32;
+pub const SPACE: u8 = b' ';
 
-pub const LINE_END: u8 = 10;
-
-// The digit 0 and the minus sign.
-const ZERO: u8 = 48;
-
-const MINUS: u8 = 45;
+pub const LINE_END: u8 = b'\n';
 
 // Writes a text from the list's start, and tells the place behind it.
 pub fn copy(text: &[u8], bytes: &mut [u8]) -> usize
@@ -25,17 +20,11 @@ pub fn copy(text: &[u8], bytes: &mut [u8]) -> usize
     count
 }
 
-// How many digits a number has: one more than there are tens to take off.
+// How many digits a number has: one, and where it is ten or more those of its tenth.
 pub fn size(x: u32) -> usize
     ensures { result ≡ length (decimal x) }
 {
-    let mut places: usize = 1;
-    let mut rest = x;
-    while rest >= 10 {
-        rest /= 10;
-        places += 1;
-    }
-    places
+    if x < 10 { 1 } else { size(x / 10) + 1 }
 }
 
 // Writes a number's digits from a place on, the last digit first, and tells the place behind them.
@@ -44,14 +33,11 @@ pub fn write(bytes: &mut [u8], at: usize, x: u32) -> usize
     ensures { Writes at (decimal x) bytes.old bytes.new result }
 {
     let next = at + size(x);
-    let mut last = next - 1;
     let mut rest = x;
-    while rest >= 10 {
-        bytes[last] = ZERO + ((rest % 10) as u8);
-        last -= 1;
+    for place in (at..next).rev() {
+        bytes[place] = b'0' + (rest % 10) as u8;
         rest /= 10;
     }
-    bytes[last] = ZERO + (rest as u8);
     next
 }
 
@@ -65,16 +51,15 @@ pub fn write_ended(bytes: &mut [u8], at: usize, x: u32, end: u8) -> usize
     next + 1
 }
 
-// The same for a signed number. The magnitude is taken in 64 bits, where that of the least i32 fits.
+// The same for a signed number: its minus sign, where it has one, and its magnitude.
 pub fn write_signed(bytes: &mut [u8], at: usize, z: i32, end: u8) -> usize
     requires { at + length (signed_decimal z ++ end ∷ []) ≤ length bytes.old }
     ensures { Writes at (signed_decimal z ++ end ∷ []) bytes.old bytes.new result }
 {
     if z < 0 {
-        bytes[at] = MINUS;
-        let wide = z as i64;
-        write_ended(bytes, at + 1, (0 - wide) as u32, end)
+        bytes[at] = b'-';
+        write_ended(bytes, at + 1, z.unsigned_abs(), end)
     } else {
-        write_ended(bytes, at, z as u32, end)
+        write_ended(bytes, at, z.unsigned_abs(), end)
     }
 }

@@ -10,8 +10,8 @@ use lib.Ieee.Scale.{finite}
 use lib.Ieee.Positive.{num, den, den_pos}
 use lib.Ieee.Fits.{and_i, and_l, and_r, eq→eqb}
 use lib.Ieee.Bits.{is_true}
+use Rattle.std.specs.Prelude.{Some, None}
 use Rattle.eighths.specs.Readings.{not_negative, max_reading, at_most, whole_eighths, inside_rules, eighths_of, IsEighths}
-use Rattle.eighths.specs.declared.Eighths.TheVariants.{Whole, Outside}
 use Rattle.eighths.proofs.Fractions.{no_rest}
 
 -- a float inside the rules is as many eighths as its value says
@@ -39,33 +39,33 @@ is_inside x k i =
     (and_i (F && N) A (and_i F N i.finite i.not_negative) (le→leb (num x) (max_reading * den x) (omega (arith, i.value, mul-le-mul_right (den x) i.most))))
     (eq→eqb (ap (λ (z : ℕ). z % den x) i.value ∙ mul-mod_left k (den x)))
 
-pub is_whole : (x : Float) (k : ℕ) → IsEighths x k → eighths_of x ≡ Whole k
+pub is_whole : (x : Float) (k : ℕ) → IsEighths x k → eighths_of x ≡ Some k
 unfolding eighths_of
 is_whole x k i =
-    ap (λ (b : Bool). cond b (Whole (8 * num x / den x)) Outside) (is_true (inside_rules x) (is_inside x k i))
-    ∙ ap Whole (ap (λ (z : ℕ). z / den x) i.value ∙ mul-div_cancel k (den_pos x))
+    ap (λ (b : Bool). cond b (Some (8 * num x / den x)) None) (is_true (inside_rules x) (is_inside x k i))
+    ∙ ap Some (ap (λ (z : ℕ). z / den x) i.value ∙ mul-div_cancel k (den_pos x))
 
-pub whole_is : (x : Float) (k : ℕ) → eighths_of x ≡ Whole k → IsEighths x k
+pub whole_is : (x : Float) (k : ℕ) → eighths_of x ≡ Some k → IsEighths x k
 unfolding eighths_of
 whole_is x k h = go (inside_rules x) (inside_is x) h
   where
-    go : (b : Bool) → (T b → IsEighths x (8 * num x / den x)) → cond b (Whole (8 * num x / den x)) Outside ≡ Whole k → IsEighths x k
+    go : (b : Bool) → (T b → IsEighths x (8 * num x / den x)) → cond b (Some (8 * num x / den x)) None ≡ Some k → IsEighths x k
     go true f e = let same : 8 * num x / den x ≡ k = cc in subst (IsEighths x) same (f tt)
-    go false f e = let no : ◌≡◌ {A = ℕ} 0 1 = cc in absurd (omega arith)
+    go false f e = cc
 
-pub outside_is : (x : Float) → eighths_of x ≡ Outside → (k : ℕ) → IsEighths x k → ⊥
-outside_is x h k i = let no : ◌≡◌ {A = ℕ} 0 1 = cc (is_whole x k i) in omega arith
+pub outside_is : (x : Float) → eighths_of x ≡ None → (k : ℕ) → IsEighths x k → ⊥
+outside_is x h k i = cc (is_whole x k i)
 
 -- the other way: a float that is no number of eighths is outside
-pub is_outside : (x : Float) → ((k : ℕ) → IsEighths x k → ⊥) → eighths_of x ≡ Outside
+pub is_outside : (x : Float) → ((k : ℕ) → IsEighths x k → ⊥) → eighths_of x ≡ None
 unfolding eighths_of
 is_outside x h = go (inside_rules x) (λ t. h (8 * num x / den x) (inside_is x t))
   where
-    go : (b : Bool) → (T b → ⊥) → cond b (Whole (8 * num x / den x)) Outside ≡ Outside
+    go : (b : Bool) → (T b → ⊥) → cond b (Some (8 * num x / den x)) None ≡ None
     go true f = absurd (f tt)
     go false f = refl
 
-pub eighths_small : (x : Float) (k : ℕ) → eighths_of x ≡ Whole k → k ≤ 160000
+pub eighths_small : (x : Float) (k : ℕ) → eighths_of x ≡ Some k → k ≤ 160000
 eighths_small x k h = (whole_is x k h).most
 
 -- 13.875 is 111 eighths, and 0.1, which a float holds only nearly, is no number of eighths

@@ -14,10 +14,9 @@ use lib.Ieee.Exact.{HasValue, round_exact}
 use lib.Ieee.Nearest.{div_same}
 use lib.Ieee.Order.{le_of_values}
 use lib.Ieee.Positive.{num, den, positive, den_pos, own_value, value→cross, between, le→cross, mul_at}
+use Rattle.std.specs.Prelude.{Option, Some, None}
 use Rattle.eighths.specs.Readings.{whole_eighths, eighths_of}
 use Rattle.eighths.specs.Steps.{least, most, whole_of}
-use Rattle.eighths.specs.declared.Eighths.{Eighths}
-use Rattle.eighths.specs.declared.Eighths.TheVariants.{Whole, Outside}
 use Rattle.eighths.proofs.Fractions.{whole_too, at_most}
 use Rattle.eighths.proofs.Patterns.{digits, with_lead}
 
@@ -33,8 +32,8 @@ largest = fin false 625 (pos 5)
 
 -- ---- what a fraction comes to: equal ones to the same
 
-abbrev comes_to : ℕ → ℕ → Eighths
-comes_to n d = cond (eqb (n % d) 0) (Whole (n / d)) Outside
+abbrev comes_to : ℕ → ℕ → Option ℕ
+comes_to n d = cond (eqb (n % d) 0) (Some (n / d)) None
 
 same_test : (r s : ℕ) → (r ≡ 0 → s ≡ 0) → (s ≡ 0 → r ≡ 0) → eqb r 0 ≡ eqb s 0
 same_test zero s f g = sym (eq-eqb s 0 (f refl))
@@ -42,15 +41,15 @@ same_test (suc r) s f g = ne_eqb (suc r) 0 (λ z. omega arith) ∙ sym (ne_eqb s
 
 come_alike : (n d a c : ℕ) → 0 < d → 0 < c → n * c ≡ a * d → comes_to n d ≡ comes_to a c
 come_alike n d a c D C e =
-    ap (λ (b : Bool). cond b (Whole (n / d)) Outside) (same_test (n % d) (a % c) (whole_too n d a c D e) (whole_too a c n d C (sym e)))
-    ∙ ap (λ (k : ℕ). cond (eqb (a % c) 0) (Whole k) Outside) (div_same n d a c D C e)
+    ap (λ (b : Bool). cond b (Some (n / d)) None) (same_test (n % d) (a % c) (whole_too n d a c D e) (whole_too a c n d C (sym e)))
+    ∙ ap (λ (k : ℕ). cond (eqb (a % c) 0) (Some k) None) (div_same n d a c D C e)
 
 in_range_lem : (x : Float) → T (positive x) → num x ≤ 20000 * den x → eighths_of x ≡ comes_to (8 * num x) (den x)
 unfolding eighths_of
 in_range_lem nan p h = absurd p
 in_range_lem (inf s) p h = absurd p
 in_range_lem (fin true m e) p h = absurd p
-in_range_lem (fin false m e) p h = let x = fin false m e in ap (λ (b : Bool). cond (b && whole_eighths x) (Whole (8 * num x / den x)) Outside) (le-leb (num x) (20000 * den x) h)
+in_range_lem (fin false m e) p h = let x = fin false m e in ap (λ (b : Bool). cond (b && whole_eighths x) (Some (8 * num x / den x)) None) (le-leb (num x) (20000 * den x) h)
 
 -- ---- eight times x
 

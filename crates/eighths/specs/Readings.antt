@@ -1,11 +1,9 @@
 -- Which floats an instrument's reading may be, and how many eighths it then is (02, 2026-04). All of it goes by the float's value; no bit enters.
 -- A finite float is `fin s m e`, m * 2 ^ e, negative where s holds; `num` / `den` is its size as a fraction.
-use Rattle.std.specs.Prelude.{ℕ, ◌*◌, ◌/◌, ◌%◌, ◌≤◌, ◌≡◌, Bool, false, not, cond, ◌&&◌, ◌||◌, T, leb, eqb, Float}
+use Rattle.std.specs.Prelude.{ℕ, ◌*◌, ◌/◌, ◌%◌, ◌≤◌, ◌≡◌, Bool, false, not, cond, ◌&&◌, ◌||◌, T, leb, eqb, Float, Option, Some, None}
 use Rattle.std.specs.Float.{nan, inf, fin}
 use Rattle.std.specs.Float.Ieee.Scale.{finite}
 use Rattle.std.specs.Float.Ieee.Positive.{num, den}
-use Rattle.eighths.specs.declared.Eighths.{Eighths}
-use Rattle.eighths.specs.declared.Eighths.TheVariants.{Whole, Outside}
 
 -- the largest reading, in metres or metres a second
 abbrev pub max_reading : ℕ
@@ -30,8 +28,8 @@ abbrev pub inside_rules : Float → Bool
 inside_rules x = finite x && not_negative x && at_most max_reading x && whole_eighths x
 
 -- what a float comes to: so many eighths, or it is outside the rules
-unfoldable pub eighths_of : Float → Eighths
-eighths_of x = cond (inside_rules x) (Whole (8 * num x / den x)) Outside
+unfoldable pub eighths_of : Float → Option ℕ
+eighths_of x = cond (inside_rules x) (Some (8 * num x / den x)) None
 
 -- a float's value is k eighths, k a whole number and at most 160,000: what it means to be inside the rules
 pub record IsEighths (x : Float) (k : ℕ) : Type 0 where

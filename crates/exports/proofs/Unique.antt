@@ -7,7 +7,7 @@ use Rattle.road.specs.Limits.{max_signals}
 use Rattle.street.specs.Lists.{Lists}
 use Rattle.street.proofs.Unique.{Same, same}
 use Rattle.sheet.proofs.Unique as sheet
-use Rattle.plans.specs.declared.Answer.{Answer}
+use Rattle.plans.specs.Answers.{Answer}
 use Rattle.plans.proofs.Unique.{carries_unique}
 use Rattle.bands.specs.Measure.{measurement_of}
 use Rattle.survey.specs.Typing.{lists_reading}

@@ -1,14 +1,14 @@
 -- The contracts of the calls that lend a list or take a sheet: the reply is the library's in C's struct, and a list is as the library leaves it.
-use Rattle.std.specs.Prelude.{◌≡◌, List, ℕ, length}
+use Rattle.std.specs.Prelude.{◌≡◌, List, ℕ, length, Result}
 use Rattle.road.specs.Limits.{max_signals}
 use Rattle.street.specs.Lists.{Lists}
-use Rattle.sheet.specs.declared.Reading.{Reading}
-use Rattle.sheet.specs.Reading.{Reads}
+use Rattle.sheet.specs.Reading.{Reading, Reads}
 use Rattle.writer.specs.Writing.{writing_of, bytes_after}
 use Rattle.plans.specs.Requests.{request_answer, request_after}
 use Rattle.plans.specs.Volumes.{Carries}
-use Rattle.plans.specs.declared.Answer.{Answer}
+use Rattle.plans.specs.Answers.{Answer}
 use Rattle.plans.specs.declared.Carried.{Carried}
+use Rattle.street.specs.declared.Refusal.{Refusal}
 use Rattle.widths.specs.declared.Request.{Request}
 use Rattle.cabinets.specs.Calls.{seconds_answer, seconds_after}
 use Rattle.printed.specs.declared.Printed.{Printed}
@@ -35,7 +35,7 @@ FlatSeconds request l entry = FlatAnswer (seconds_answer request l (length entry
 
 -- `corbatan_volumes`: what the call with volumes answers, and what it leaves in the lent list (02, 2026-03)
 pub record FlatCarries (out back h : ℕ) (l : Lists) (entry exit : List ℕ) (r : CorbatanVolumes) : Type 0 where
-  pub carried : Carried
+  pub carried : Result Carried Refusal
   pub carries : Carries out back h l entry exit carried
   pub reply : r ≡ flat_carried carried
 

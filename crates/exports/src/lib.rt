@@ -14,37 +14,7 @@ use flat::{
     CorbatanMeasure, CorbatanPlan, CorbatanSheet, CorbatanText, CorbatanVolumes, CorbatanWriting,
 };
 use plans::Request;
-use street::Street;
-
-// The plan of a request in C's struct. The first entries of the lent list become the offsets; a refusal leaves the list as it was.
-fn plan_for(
-    request: Request,
-    cycle: u32,
-    reds: &[u32],
-    distances: &[u32],
-    outbound: &[u32],
-    inbound: &[u32],
-    offsets: &mut [u32],
-) -> CorbatanPlan
-    ensures { FlatRequested request (typed cycle reds.now distances.now outbound.now inbound.now) offsets.old offsets.new result }
-{
-    flat::plan(plans::plan_for(request, cycle, reds, distances, outbound, inbound, offsets))
-}
-
-// The same in whole seconds: the first entries of the lent list become the seconds at which the signals turn green (02, 2026-06).
-fn seconds_for(
-    request: Request,
-    cycle: u32,
-    reds: &[u32],
-    distances: &[u32],
-    outbound: &[u32],
-    inbound: &[u32],
-    seconds: &mut [u32],
-) -> CorbatanPlan
-    ensures { FlatSeconds request (typed cycle reds.now distances.now outbound.now inbound.now) seconds.old seconds.new result }
-{
-    flat::plan(cabinets::plan_for(request, cycle, reds, distances, outbound, inbound, seconds))
-}
+use street::{Lists, Street};
 
 // The equal plan.
 #[unsafe(no_mangle)]
@@ -58,15 +28,8 @@ pub extern "C" fn corbatan_equal(
 ) -> CorbatanPlan
     ensures { FlatRequested Equal (typed cycle reds.now distances.now outbound.now inbound.now) offsets.old offsets.new result }
 {
-    plan_for(
-        Request::Equal,
-        cycle,
-        reds,
-        distances,
-        outbound,
-        inbound,
-        offsets,
-    )
+    let street = Lists::new(cycle, reds, distances, outbound, inbound);
+    CorbatanPlan::from(plans::plan_for(Request::Equal, &street, offsets))
 }
 
 // The plan with a requested outbound width in halves.
@@ -82,15 +45,8 @@ pub extern "C" fn corbatan_outbound(
 ) -> CorbatanPlan
     ensures { FlatRequested (Outbound width) (typed cycle reds.now distances.now outbound.now inbound.now) offsets.old offsets.new result }
 {
-    plan_for(
-        Request::Outbound(width),
-        cycle,
-        reds,
-        distances,
-        outbound,
-        inbound,
-        offsets,
-    )
+    let street = Lists::new(cycle, reds, distances, outbound, inbound);
+    CorbatanPlan::from(plans::plan_for(Request::Outbound(width), &street, offsets))
 }
 
 // The plan with a requested inbound width in halves.
@@ -106,15 +62,8 @@ pub extern "C" fn corbatan_inbound(
 ) -> CorbatanPlan
     ensures { FlatRequested (Inbound width) (typed cycle reds.now distances.now outbound.now inbound.now) offsets.old offsets.new result }
 {
-    plan_for(
-        Request::Inbound(width),
-        cycle,
-        reds,
-        distances,
-        outbound,
-        inbound,
-        offsets,
-    )
+    let street = Lists::new(cycle, reds, distances, outbound, inbound);
+    CorbatanPlan::from(plans::plan_for(Request::Inbound(width), &street, offsets))
 }
 
 // The plan from the lengths of two platoons in halves.
@@ -131,15 +80,12 @@ pub extern "C" fn corbatan_platoons(
 ) -> CorbatanPlan
     ensures { FlatRequested (Platoons outbound_platoon inbound_platoon) (typed cycle reds.now distances.now outbound.now inbound.now) offsets.old offsets.new result }
 {
-    plan_for(
+    let street = Lists::new(cycle, reds, distances, outbound, inbound);
+    CorbatanPlan::from(plans::plan_for(
         Request::Platoons(outbound_platoon, inbound_platoon),
-        cycle,
-        reds,
-        distances,
-        outbound,
-        inbound,
+        &street,
         offsets,
-    )
+    ))
 }
 
 // The plan for two volumes in vehicles an hour at a headway in ticks, with the largest volumes that its widths take.
@@ -157,12 +103,9 @@ pub extern "C" fn corbatan_volumes(
 ) -> CorbatanVolumes
     ensures { FlatCarries outbound_volume inbound_volume headway (typed cycle reds.now distances.now outbound.now inbound.now) offsets.old offsets.new result }
 {
-    flat::volumes(plans::volumes(
-        cycle,
-        reds,
-        distances,
-        outbound,
-        inbound,
+    let street = Lists::new(cycle, reds, distances, outbound, inbound);
+    CorbatanVolumes::from(plans::volumes(
+        &street,
         outbound_volume,
         inbound_volume,
         headway,
@@ -182,15 +125,8 @@ pub extern "C" fn corbatan_equal_seconds(
 ) -> CorbatanPlan
     ensures { FlatSeconds Equal (typed cycle reds.now distances.now outbound.now inbound.now) seconds.old seconds.new result }
 {
-    seconds_for(
-        Request::Equal,
-        cycle,
-        reds,
-        distances,
-        outbound,
-        inbound,
-        seconds,
-    )
+    let street = Lists::new(cycle, reds, distances, outbound, inbound);
+    CorbatanPlan::from(cabinets::plan_for(Request::Equal, &street, seconds))
 }
 
 // The plan with a requested outbound width, in whole seconds.
@@ -206,15 +142,8 @@ pub extern "C" fn corbatan_outbound_seconds(
 ) -> CorbatanPlan
     ensures { FlatSeconds (Outbound width) (typed cycle reds.now distances.now outbound.now inbound.now) seconds.old seconds.new result }
 {
-    seconds_for(
-        Request::Outbound(width),
-        cycle,
-        reds,
-        distances,
-        outbound,
-        inbound,
-        seconds,
-    )
+    let street = Lists::new(cycle, reds, distances, outbound, inbound);
+    CorbatanPlan::from(cabinets::plan_for(Request::Outbound(width), &street, seconds))
 }
 
 // The plan with a requested inbound width, in whole seconds.
@@ -230,15 +159,8 @@ pub extern "C" fn corbatan_inbound_seconds(
 ) -> CorbatanPlan
     ensures { FlatSeconds (Inbound width) (typed cycle reds.now distances.now outbound.now inbound.now) seconds.old seconds.new result }
 {
-    seconds_for(
-        Request::Inbound(width),
-        cycle,
-        reds,
-        distances,
-        outbound,
-        inbound,
-        seconds,
-    )
+    let street = Lists::new(cycle, reds, distances, outbound, inbound);
+    CorbatanPlan::from(cabinets::plan_for(Request::Inbound(width), &street, seconds))
 }
 
 // The plan from the lengths of two platoons, in whole seconds.
@@ -255,15 +177,12 @@ pub extern "C" fn corbatan_platoons_seconds(
 ) -> CorbatanPlan
     ensures { FlatSeconds (Platoons outbound_platoon inbound_platoon) (typed cycle reds.now distances.now outbound.now inbound.now) seconds.old seconds.new result }
 {
-    seconds_for(
+    let street = Lists::new(cycle, reds, distances, outbound, inbound);
+    CorbatanPlan::from(cabinets::plan_for(
         Request::Platoons(outbound_platoon, inbound_platoon),
-        cycle,
-        reds,
-        distances,
-        outbound,
-        inbound,
+        &street,
         seconds,
-    )
+    ))
 }
 
 // The plan for two volumes at a headway, in whole seconds. The largest volumes do not depend on them: `corbatan_volumes` has these.
@@ -281,15 +200,12 @@ pub extern "C" fn corbatan_volumes_seconds(
 ) -> CorbatanPlan
     ensures { FlatSeconds (Volumes outbound_volume inbound_volume headway) (typed cycle reds.now distances.now outbound.now inbound.now) seconds.old seconds.new result }
 {
-    seconds_for(
+    let street = Lists::new(cycle, reds, distances, outbound, inbound);
+    CorbatanPlan::from(cabinets::plan_for(
         Request::Volumes(outbound_volume, inbound_volume, headway),
-        cycle,
-        reds,
-        distances,
-        outbound,
-        inbound,
+        &street,
         seconds,
-    )
+    ))
 }
 
 // The measure of given offsets, which are an input here and not lent.
@@ -304,37 +220,16 @@ pub extern "C" fn corbatan_measure(
 ) -> CorbatanMeasure
     ensures { result ≡ flat_measure (measurement_of (typed cycle reds.now distances.now outbound.now inbound.now) offsets.now) }
 {
-    flat::measure(bands::measure(cycle, reds, distances, outbound, inbound, offsets))
+    let measured = Lists::new(cycle, reds, distances, outbound, inbound);
+    CorbatanMeasure::from(bands::measure(&measured, offsets))
 }
 
-// The numbers of a sheet's bytes. The arrays are filled where they stand and copied once, into the reply.
+// The numbers of a sheet's bytes.
 #[unsafe(no_mangle)]
 pub extern "C" fn corbatan_read(bytes: &[u8]) -> CorbatanSheet
     ensures { FlatReads bytes.now result }
 {
-    let mut reds = [0u32; Street::MAX_SIGNALS];
-    let mut distances = [0u32; Street::MAX_SIGNALS];
-    let mut outbound = [0u32; Street::MAX_SIGNALS];
-    let mut inbound = [0u32; Street::MAX_SIGNALS];
-    let head = sheet::fill(
-        bytes,
-        &mut reds,
-        &mut distances,
-        &mut outbound,
-        &mut inbound,
-    );
-    let verdict = head.verdict;
-    let numbers = flat::numbered(verdict);
-    CorbatanSheet {
-        code: numbers.code,
-        place: numbers.place,
-        signals: head.signals,
-        cycle: head.cycle,
-        reds,
-        distances,
-        outbound,
-        inbound,
-    }
+    CorbatanSheet::from(sheet::read(bytes))
 }
 
 // The numbers of a survey's rows, each column in a list of its own with an entry for each row (02, 2026-04).
@@ -349,7 +244,7 @@ pub extern "C" fn corbatan_survey(
 ) -> CorbatanSheet
     ensures { result ≡ flat_reading (lists_reading cycle kinds.now positions.now outbound.now inbound.now reds.now) }
 {
-    flat::reading(survey::read_lists(cycle, kinds, positions, outbound, inbound, reds))
+    CorbatanSheet::from(survey::read_lists(cycle, kinds, positions, outbound, inbound, reds))
 }
 
 // The sheet of a street in the first bytes of the lent list; a refusal leaves the list as it was.
@@ -364,7 +259,8 @@ pub extern "C" fn corbatan_write(
 ) -> CorbatanWriting
     ensures { FlatWrites (typed cycle reds.now distances.now outbound.now inbound.now) bytes.old bytes.new result }
 {
-    flat::writing(writer::write(cycle, reds, distances, outbound, inbound, bytes))
+    let typed = Lists::new(cycle, reds, distances, outbound, inbound);
+    CorbatanWriting::from(writer::write(&typed, bytes))
 }
 
 // The printed equal plan of a sheet's bytes, or the line of its refusal. The list for the offsets has room for every street.
@@ -372,10 +268,5 @@ pub extern "C" fn corbatan_write(
 pub extern "C" fn corbatan_print(bytes: &[u8]) -> CorbatanText
     ensures { FlatPrints bytes.now result }
 {
-    let text = printed::equal_text(bytes, Street::MAX_SIGNALS);
-    let bytes = text.bytes;
-    CorbatanText {
-        count: text.count,
-        bytes,
-    }
+    CorbatanText::from(printed::equal_text(bytes, Street::MAX_SIGNALS))
 }

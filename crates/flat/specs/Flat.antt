@@ -1,15 +1,18 @@
 -- The library's replies as C's flat structs: the numbers that the library's own definitions give each reply, one field for each.
-use Rattle.std.specs.Prelude.{ℕ}
+use Rattle.std.specs.Prelude.{ℕ, [], Result, Ok, Err}
+use Rattle.street.specs.Lists.{typed}
 use Rattle.street.specs.Codes.{code_of, place_of}
+use Rattle.street.specs.Verdicts.{verdict_of}
+use Rattle.street.specs.declared.Refusal.{Refusal}
 use Rattle.sheet.specs.declared.Sheet.{Sheet}
-use Rattle.sheet.specs.declared.Reading.{Reading}
+use Rattle.sheet.specs.Reading.{Reading, sheet_of}
 use Rattle.writer.specs.Writing as writer
-use Rattle.writer.specs.declared.Writing.{Writing}
+use Rattle.writer.specs.Writing.{Writing}
 use Rattle.plans.specs.Answers as plans
-use Rattle.plans.specs.declared.Answer.{Answer}
+use Rattle.plans.specs.Answers.{Answer}
 use Rattle.plans.specs.declared.Carried.{Carried}
 use Rattle.bands.specs.Measure as bands
-use Rattle.bands.specs.declared.Measurement.{Measurement}
+use Rattle.bands.specs.Measure.{Measurement}
 use Rattle.printed.specs.declared.Printed.{Printed}
 use Rattle.flat.specs.declared.CorbatanPlan.{CorbatanPlan}
 use Rattle.flat.specs.declared.CorbatanVolumes.{CorbatanVolumes}
@@ -36,9 +39,10 @@ plan_fields n =
 abbrev pub flat_plan : Answer → CorbatanPlan
 flat_plan a = plan_fields (plans.plan_numbers a)
 
--- the same, and the largest volumes beside it (02, 2026-03)
-abbrev pub flat_carried : Carried → CorbatanVolumes
-flat_carried c = record { plan = flat_plan c.answer; outbound_volume = c.outbound; inbound_volume = c.inbound }
+-- the same, and the largest volumes beside it, 0 and 0 beside a refusal (02, 2026-03)
+abbrev pub flat_carried : Result Carried Refusal → CorbatanVolumes
+flat_carried (Ok c) = record { plan = flat_plan (Ok c.plan); outbound_volume = c.outbound; inbound_volume = c.inbound }
+flat_carried (Err f) = record { plan = flat_plan (Err f); outbound_volume = 0; inbound_volume = 0 }
 
 -- a measure's numbers, or a refusal's
 abbrev pub measure_fields : bands.BandNumbers → CorbatanMeasure
@@ -69,9 +73,18 @@ flat_sheet code place s =
       inbound = s.inbound;
     }
 
--- the same with a verdict's code and place
+-- a sheet of which every number is 0
+abbrev pub no_sheet : Sheet
+no_sheet = sheet_of (typed 0 [] [] [] [])
+
+-- the sheet of a reading, if there is one
+abbrev pub sheet_beside : Reading → Sheet
+sheet_beside (Ok s) = s
+sheet_beside (Err f) = no_sheet
+
+-- the sheet of a reading with the code and place of its refusal, 0 and 0 where there is none
 abbrev pub flat_reading : Reading → CorbatanSheet
-flat_reading r = flat_sheet (code_of r.verdict) (place_of r.verdict) r.sheet
+flat_reading r = flat_sheet (code_of (verdict_of r)) (place_of (verdict_of r)) (sheet_beside r)
 
 -- a written sheet's numbers, or a refusal's (02, 2026-01)
 abbrev pub writing_fields : writer.WritingNumbers → CorbatanWriting

@@ -1,17 +1,15 @@
 // The library's replies in C's flat structs, for include/corbatan.h. C has no enums with fields, so a reply is one struct, whose code is
-// 0 where nothing was refused. No call is made here: `exports` has these.
+// 0 where nothing was refused, and each is made from the library's own. No call is made here: `exports` has these.
 #![tactic(auto)]
 
 ghost use Rattle.std.specs.Prelude.{◌≡◌};
-ghost use Rattle.street.specs.Codes.{code_of, place_of};
-ghost use Rattle.flat.specs.Flat.{flat_plan, flat_carried, flat_measure, flat_reading, flat_writing};
+ghost use Rattle.flat.specs.Flat.{flat_plan, flat_carried, flat_measure, flat_sheet, flat_reading, flat_writing, flat_text};
 
-use bands::Measurement;
-use plans::{Answer, Carried};
+use bands::Measured;
+use plans::{Carried, Plan};
 use printed::Printed;
-use sheet::Reading;
-use street::{Street, Verdict, code_number};
-use writer::Writing;
+use sheet::Sheet;
+use street::{Refusal, Street};
 
 // A plan's numbers or a refusal's, with document 01's number for the refusal. Widths, B and instants are in halves.
 #[repr(C)]
@@ -80,33 +78,25 @@ pub struct CorbatanText {
     pub bytes: [u8; Printed::MAX_BYTES],
 }
 
-// The code and place of a verdict, both 0 where nothing was refused.
-#[derive(Clone, Copy)]
-pub struct Mark {
-    pub code: u32,
-    pub place: u32,
-}
-
 // Any plan's answer.
-pub fn plan(answer: Answer) -> CorbatanPlan
-    ensures { result ≡ flat_plan answer }
-{
-    match answer {
-        Answer::Planned(p) => CorbatanPlan {
-            code: 0,
-            place: 0,
-            reference: p.reference,
-            b: p.b,
-            outbound: p.outbound,
-            inbound: p.inbound,
-            rounded: p.rounded,
-            starts: p.starts,
-            ends: p.ends,
-        },
-        Answer::Refused(f) => {
-            let code = f.code;
-            CorbatanPlan {
-                code: code_number(code),
+impl From<Result<Plan, Refusal>> for CorbatanPlan {
+    ghost from_gives = { λ answer flat. flat ≡ flat_plan answer };
+
+    fn from(answer: Result<Plan, Refusal>) -> CorbatanPlan {
+        match answer {
+            Ok(p) => CorbatanPlan {
+                code: 0,
+                place: 0,
+                reference: p.reference,
+                b: p.b,
+                outbound: p.outbound,
+                inbound: p.inbound,
+                rounded: p.rounded,
+                starts: p.starts,
+                ends: p.ends,
+            },
+            Err(f) => CorbatanPlan {
+                code: u32::from(f.code),
                 place: f.place,
                 reference: 0,
                 b: 0,
@@ -115,104 +105,128 @@ pub fn plan(answer: Answer) -> CorbatanPlan
                 rounded: 0,
                 starts: 0,
                 ends: 0,
-            }
+            },
         }
     }
 }
 
-pub fn volumes(carried: Carried) -> CorbatanVolumes
-    ensures { result ≡ flat_carried carried }
-{
-    let answer = carried.answer;
-    let plan = plan(answer);
-    CorbatanVolumes {
-        plan,
-        outbound_volume: carried.outbound,
-        inbound_volume: carried.inbound,
+// The answer to volumes.
+impl From<Result<Carried, Refusal>> for CorbatanVolumes {
+    ghost from_gives = { λ answer flat. flat ≡ flat_carried answer };
+
+    fn from(answer: Result<Carried, Refusal>) -> CorbatanVolumes {
+        match answer {
+            Ok(carried) => CorbatanVolumes {
+                plan: CorbatanPlan::from(Ok(carried.plan)),
+                outbound_volume: carried.outbound,
+                inbound_volume: carried.inbound,
+            },
+            Err(f) => CorbatanVolumes {
+                plan: CorbatanPlan::from(Err(f)),
+                outbound_volume: 0,
+                inbound_volume: 0,
+            },
+        }
     }
 }
 
-pub fn measure(answer: Measurement) -> CorbatanMeasure
-    ensures { result ≡ flat_measure answer }
-{
-    match answer {
-        Measurement::Found(m) => CorbatanMeasure {
-            code: 0,
-            place: 0,
-            outbound_width: m.outbound.width,
-            outbound_start: m.outbound.start,
-            inbound_width: m.inbound.width,
-            inbound_start: m.inbound.start,
-        },
-        Measurement::Refused(f) => {
-            let code = f.code;
-            CorbatanMeasure {
-                code: code_number(code),
+// A measure's answer.
+impl From<Result<Measured, Refusal>> for CorbatanMeasure {
+    ghost from_gives = { λ answer flat. flat ≡ flat_measure answer };
+
+    fn from(answer: Result<Measured, Refusal>) -> CorbatanMeasure {
+        match answer {
+            Ok(m) => CorbatanMeasure {
+                code: 0,
+                place: 0,
+                outbound_width: m.outbound.width,
+                outbound_start: m.outbound.start,
+                inbound_width: m.inbound.width,
+                inbound_start: m.inbound.start,
+            },
+            Err(f) => CorbatanMeasure {
+                code: u32::from(f.code),
                 place: f.place,
                 outbound_width: 0,
                 outbound_start: 0,
                 inbound_width: 0,
                 inbound_start: 0,
-            }
+            },
         }
     }
 }
 
-pub fn writing(answer: Writing) -> CorbatanWriting
-    ensures { result ≡ flat_writing answer }
-{
-    match answer {
-        Writing::Wrote(count) => CorbatanWriting {
-            code: 0,
-            place: 0,
-            count,
-        },
-        Writing::Refused(f) => {
-            let code = f.code;
-            CorbatanWriting {
-                code: code_number(code),
+// The writer's answer.
+impl From<Result<usize, Refusal>> for CorbatanWriting {
+    ghost from_gives = { λ answer flat. flat ≡ flat_writing answer };
+
+    fn from(answer: Result<usize, Refusal>) -> CorbatanWriting {
+        match answer {
+            Ok(count) => CorbatanWriting {
+                code: 0,
+                place: 0,
+                count,
+            },
+            Err(f) => CorbatanWriting {
+                code: u32::from(f.code),
                 place: f.place,
                 count: 0,
-            }
+            },
         }
     }
 }
 
-// A verdict in numbers.
-pub fn numbered(verdict: Verdict) -> Mark
-    ensures { (result.code ≡ code_of verdict) × (result.place ≡ place_of verdict) }
+// A sheet's numbers beside a code and a place.
+fn marked(code: u32, place: u32, s: Sheet) -> CorbatanSheet
+    ensures { result ≡ flat_sheet code place s }
 {
-    match verdict {
-        Verdict::Passed => Mark { code: 0, place: 0 },
-        Verdict::Refused(f) => {
-            let code = f.code;
-            Mark {
-                code: code_number(code),
-                place: f.place,
-            }
-        }
-    }
-}
-
-// A reading's numbers, or a refusal's.
-pub fn reading(reading: Reading) -> CorbatanSheet
-    ensures { result ≡ flat_reading reading }
-{
-    let verdict = reading.verdict;
-    let numbers = numbered(verdict);
-    let s = reading.sheet;
-    let reds = s.reds;
-    let distances = s.distances;
-    let outbound = s.outbound;
-    let inbound = s.inbound;
-    CorbatanSheet {
-        code: numbers.code,
-        place: numbers.place,
-        signals: s.signals,
-        cycle: s.cycle,
+    let Sheet {
+        signals,
+        cycle,
         reds,
         distances,
         outbound,
         inbound,
+    } = s;
+    CorbatanSheet {
+        code,
+        place,
+        signals,
+        cycle,
+        reds,
+        distances,
+        outbound,
+        inbound,
+    }
+}
+
+// The answer of what reads a sheet or a survey.
+impl From<Result<Sheet, Refusal>> for CorbatanSheet {
+    ghost from_gives = { λ answer flat. flat ≡ flat_reading answer };
+
+    fn from(answer: Result<Sheet, Refusal>) -> CorbatanSheet {
+        match answer {
+            Ok(s) => marked(0, 0, s),
+            Err(f) => CorbatanSheet {
+                code: u32::from(f.code),
+                place: f.place,
+                signals: 0,
+                cycle: 0,
+                reds: [0; Street::MAX_SIGNALS],
+                distances: [0; Street::MAX_SIGNALS],
+                outbound: [0; Street::MAX_SIGNALS],
+                inbound: [0; Street::MAX_SIGNALS],
+            },
+        }
+    }
+}
+
+// A printed text.
+impl From<Printed> for CorbatanText {
+    ghost from_gives = { λ text flat. flat ≡ flat_text text };
+
+    fn from(text: Printed) -> CorbatanText {
+        let Printed { bytes, count } = text;
+        CorbatanText { count, bytes }
     }
 }

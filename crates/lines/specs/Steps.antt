@@ -1,6 +1,8 @@
 -- Steps: what the library's functions say to each other and to the proofs. No contract of a public call cites it.
-use Rattle.std.specs.Prelude.{ℕ, ◌≤◌, ◌≡◌, List, length}
-use Rattle.lines.specs.declared.Line.{Line}
+use Rattle.std.specs.Prelude.{ℕ}
+use Rattle.arrayvec.specs.ArrayVec.{array_vec_len}
+use Rattle.lines.specs.declared.Call.{Call}
+use Rattle.lines.specs.declared.Call.TheVariants.{Measure}
 
 -- the longest lent list of offsets that a line may name, and the most of its numbers that are kept
 abbrev pub max_entries : ℕ
@@ -10,7 +12,7 @@ max_entries = 64
 abbrev pub max_room : ℕ
 max_room = 4096
 
--- a line ends within its bytes, lends no more than may be named and keeps no more numbers than its array has
-abbrev pub Within : List ℕ → Line → Type 0
-Within bytes line =
-    (line.at ≤ length bytes) × (line.room ≤ max_room) × (line.count ≤ max_entries) × (length line.numbers ≡ max_entries)
+-- how many numbers are kept for a call
+abbrev pub entries_of : Call → ℕ
+entries_of (Measure offsets) = array_vec_len offsets
+entries_of _ = 0

@@ -6,16 +6,16 @@ ghost use Rattle.std.specs.Prelude.{◌≡◌, ◌++◌, ◌*◌, ◌≤◌, ◌
 ghost use Rattle.circle.specs.Over.{list_below};
 ghost use Rattle.road.specs.Steps.{max_time};
 ghost use Rattle.street.specs.Limits.{max_cycle};
-ghost use Rattle.street.specs.Steps.{max_halves, timed_by};
+ghost use Rattle.street.specs.Steps.{max_halves, timed_street};
 ghost use Rattle.widths.specs.Steps.{shift_width};
 ghost use Rattle.offsets.specs.Moved.{moved_offset};
 ghost use Rattle.offsets.specs.Steps.{Ready, choice_of, lowering_of, offset_at};
 
 use street::Street;
-use widths::Shift;
+use widths::{Base, Shift};
 
 // A signal's phase against the reference, and the u of that phase.
-#[derive(Clone, Copy)]
+#[derive(Clone, Copy, Debug, PartialEq, Eq)]
 pub struct Choice {
     pub phase: u32,
     pub u: u32,
@@ -50,8 +50,8 @@ fn lowered_by(raised: u32, shift: Shift, red: u32, u: u32) -> u32
     }
     match shift {
         Shift::Unmoved => 0,
-        Shift::Outbound(width) => circle::surplus(u + width, raised),
-        Shift::Inbound(width) => circle::surplus(width + 2 * red, u),
+        Shift::Outbound(width) => (u + width).saturating_sub(raised),
+        Shift::Inbound(width) => (width + 2 * red).saturating_sub(u),
     }
 }
 
@@ -77,35 +77,29 @@ fn offset_at(
 
 // The first entries of the lent list become the offsets; the others stay.
 pub fn write(
-    cycle: u32,
-    n: usize,
-    reds: &[u32; Street::MAX_SIGNALS],
-    outbound: &[u32; Street::MAX_SIGNALS],
-    inbound: &[u32; Street::MAX_SIGNALS],
-    x: &[u32; Street::MAX_SIGNALS],
+    base: &Base,
+    anchors: &[u32; Street::MAX_SIGNALS],
     c: usize,
-    raised: u32,
     shift: Shift,
     offsets: &mut [u32],
 )
-    requires { Ready (timed_by cycle n reds.now outbound.now inbound.now) x.now c raised × (shift_width shift ≤ max_halves) × (n ≤ length offsets.old) }
-    ensures { offsets.new ≡ list_below n (moved_offset shift (timed_by cycle n reds.now outbound.now inbound.now)) ++ drop n offsets.old }
+    requires { Ready (timed_street base.now.street.now) anchors.now c base.now.raised × (shift_width shift ≤ max_halves) × (base.now.street.now.road.signals ≤ length offsets.old) }
+    ensures { offsets.new ≡ list_below base.now.street.now.road.signals (moved_offset shift (timed_street base.now.street.now)) ++ drop base.now.street.now.road.signals offsets.old }
 {
-    let from = x[c];
-    let out = outbound[c];
-    let back = inbound[c];
-    let mut j: usize = 0;
-    while j < n {
+    let s = base.street;
+    let from = anchors[c];
+    let out = s.road.outbound[c];
+    let back = s.road.inbound[c];
+    for j in 0..s.road.signals {
         offsets[j] = offset_at(
-            cycle,
-            raised,
+            s.cycle,
+            base.raised,
             shift,
             from,
-            x[j],
-            reds[j],
-            outbound[j] + back,
-            out + inbound[j],
+            anchors[j],
+            s.reds[j],
+            s.road.outbound[j] + back,
+            out + s.road.inbound[j],
         );
-        j += 1;
     }
 }

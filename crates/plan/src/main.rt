@@ -2,29 +2,16 @@
 // the bytes only come in and go out. One byte more than a sheet may have is asked for, so that a sheet that is too long is seen to be.
 #![tactic(auto)]
 
-ghost use Rattle.std.specs.Prelude.{◌≤◌, length};
 ghost use Rattle.road.specs.Limits.{max_signals};
 ghost use Rattle.printed.specs.Way.{Answers};
 
+use arrayvec::ArrayVec;
 use sheet::Sheet;
-use std::io::Read;
+use std::io::{self, Read};
 use street::Street;
 
-// Reads until the list is full, the input ends or a read fails, and answers how many bytes stand at the list's start: a failed read counts
-// as the end of the input.
-fn read_full(input: &mut impl Read, list: &mut [u8]) -> usize
-    ensures { result ≤ length list.new }
-{
-    let mut done = 0;
-    while done < list.len() {
-        match input.read(&mut list[done..]) {
-            Ok(0) => return done,
-            Ok(count) => done += count,
-            Err(_) => return done,
-        }
-    }
-    done
-}
+// The most bytes that are read.
+const MAX_INPUT: usize = Sheet::MAX_BYTES + 1;
 
 // Writes the text that answers a sheet. No contract can tell what is written; so that the text answers the bytes beside it is asked for
 // here, at the one place where the program writes. A text that is lost, or a part of it, is told on standard error, where the program says
@@ -37,11 +24,11 @@ fn send(rt: &(impl Print + Eprint), sheet: &[u8], text: &[u8])
     }
 }
 
+// A read that fails counts as the end of the input: what was read before it stands.
 fn main(rt: HostRuntime) {
-    let mut input = [0u8; Sheet::MAX_BYTES + 1];
-    let got = read_full(&mut rt.stdin(), &mut input);
-    let answer = printed::equal_text(&input[..got], Street::MAX_SIGNALS);
-    let bytes = answer.bytes;
-    let count = answer.count;
-    send(&rt, &input[..got], &bytes[..count]);
+    let mut input = ArrayVec::<u8, MAX_INPUT>::new();
+    let _ = io::copy(&mut rt.stdin().take(MAX_INPUT as u64), &mut input);
+    let sheet = input.as_slice();
+    let answer = printed::equal_text(sheet, Street::MAX_SIGNALS);
+    send(&rt, sheet, answer.text());
 }

@@ -1,17 +1,17 @@
--- The numbers of an answer worked out: a refusal has its code and place and is 0 elsewhere, a plan has code and place 0; and the volumes beside each. Assumes nothing.
+-- The numbers of an answer worked out: a refusal has its code and place and is 0 elsewhere, a plan has code and place 0; and the volumes beside a plan. Assumes nothing.
+use Rattle.std.specs.Prelude.{Ok, Err}
 use mathlib.Core.Path.{◌≡◌, refl}
 use lib.IntN.{pos, negsuc}
 use Rattle.street.specs.declared.Code.TheVariants.{Speed}
 use Rattle.traffic.proofs.Examples.{into_89, into_31}
 use Rattle.plans.specs.Answers.{plan_numbers}
 use Rattle.plans.specs.Volumes.{LargestFor}
-use Rattle.plans.specs.declared.Answer.{Answer}
-use Rattle.plans.specs.declared.Answer.TheVariants as answer
+use Rattle.plans.specs.Answers.{Answer}
 use Rattle.plans.specs.declared.Plan.{Plan}
 
 -- a speed on link 3
 abbrev refused : Answer
-refused = answer.Refused (record { code = Speed; place = 3 })
+refused = Err (record { code = Speed; place = 3 })
 
 abbrev moved : Plan
 moved = record { reference = 2; b = negsuc 99; outbound = 200; inbound = 0; rounded = 1; starts = 5; ends = 15 }
@@ -19,12 +19,12 @@ moved = record { reference = 2; b = negsuc 99; outbound = 200; inbound = 0; roun
 refusal : plan_numbers refused ≡ record { code = 7; place = 3; plan = record { reference = 0; b = pos 0; outbound = 0; inbound = 0; rounded = 0; starts = 0; ends = 0 } }
 refusal = refl
 
-plan : plan_numbers (answer.Planned moved) ≡ record { code = 0; place = 0; plan = moved }
+plan : plan_numbers (Ok moved) ≡ record { code = 0; place = 0; plan = moved }
 plan = refl
 
--- at a cycle of 100 ticks and a headway of 20 an outbound width of 89 takes 801 vehicles an hour and an inbound one of 31 takes 279; a refusal has none
+-- at a cycle of 100 ticks and a headway of 20 an outbound width of 89 takes 801 vehicles an hour and an inbound one of 31 takes 279
 abbrev uneven : Plan
 uneven = record { reference = 1; b = pos 60; outbound = 89; inbound = 31; rounded = 0; starts = 11; ends = 131 }
 
-volumes : LargestFor 100 20 (answer.Planned uneven) 801 279 × LargestFor 100 20 refused 0 0
-volumes = ((into_89, into_31), (refl, refl))
+volumes : LargestFor 100 20 (record { plan = uneven; outbound = 801; inbound = 279 })
+volumes = (into_89, into_31)

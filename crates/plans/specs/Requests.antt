@@ -5,15 +5,15 @@ use Rattle.circle.specs.Over.{list_below}
 use Rattle.street.specs.Lists.{Lists, signals}
 use Rattle.street.specs.Checks.{first_fault, plan_checks, written}
 use Rattle.street.specs.Streets.{timed, m}
-use Rattle.street.specs.declared.Verdict.{Verdict}
+use Rattle.street.specs.Verdicts.{Verdict}
 use Rattle.widths.specs.declared.Request.{Request}
 use Rattle.widths.specs.declared.Shift.{Shift}
 use Rattle.widths.specs.Moved.{shift_of, outbound_width, inbound_width}
 use Rattle.widths.specs.Checks.{request_check}
 use Rattle.offsets.specs.Moved.{moved_offset}
 use Rattle.plans.specs.declared.Plan.{Plan}
-use Rattle.plans.specs.Answers.{answered}
-use Rattle.plans.specs.declared.Answer.{Answer}
+use Rattle.street.specs.Verdicts.{answered}
+use Rattle.plans.specs.Answers.{Answer}
 
 -- the plan's numbers: the reference counted from 1, B, both widths, m, and the named bands' instants at c, whose red moved with its offset
 abbrev pub moved_plan : Shift → Timed → ℕ → Plan

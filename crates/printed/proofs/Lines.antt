@@ -10,14 +10,18 @@ use Rattle.decimal.specs.Decimal.{decimal}
 use Rattle.decimal.specs.Lines.{line}
 use Rattle.printed.specs.Text.{offset_lines}
 
-module _ (l : List ℕ) (i : ℕ) where
-  pub offset-line : i < length l → offset_lines (drop i l) ≡ (decimal (get_or l i 0) ++ 10 ∷ []) ++ offset_lines (drop (i + 1) l)
-  unfolding offset_lines
-  offset-line h = rw (add-one, drop-cons l i 0 h) refl
+-- an offset's line
+abbrev pub one_line : ℕ → List ℕ
+one_line x = decimal x ++ 10 ∷ []
 
-  pub no_offset-line : length l ≤ i → offset_lines (drop i l) ≡ []
+module _ (l : List ℕ) (i : ℕ) where
+  pub offset_line : i < length l → offset_lines (drop i l) ≡ one_line (get_or l i 0) ++ offset_lines (drop (i + 1) l)
   unfolding offset_lines
-  no_offset-line h = rw (drop_of_length-le l h) refl
+  offset_line h = rw (add-one, drop-cons l i 0 h) refl
+
+  pub no_offset_line : length l ≤ i → offset_lines (drop i l) ≡ []
+  unfolding offset_lines
+  no_offset_line h = rw (drop_of_length-le l h) refl
 
 -- a line of three items, and one of five
 pub three_items : (w a b : List ℕ) → (w ++ 32 ∷ []) ++ (a ++ 32 ∷ []) ++ (b ++ 10 ∷ []) ≡ line (w ∷ a ∷ b ∷ [])
@@ -28,9 +32,6 @@ pub five_items :
     → (a ++ 32 ∷ []) ++ (b ++ 32 ∷ []) ++ (c ++ 32 ∷ []) ++ (d ++ 32 ∷ []) ++ (e ++ 10 ∷ []) ≡ line (a ∷ b ∷ c ∷ d ∷ e ∷ [])
 five_items a b c d e = simp append_assoc
 
--- how long they are
-pub three_sizes : (a b c : List ℕ) → length (a ++ b ++ c) ≡ length a + length b + length c
-three_sizes a b c = simp length-append
-
+-- how long the five are
 pub five_sizes : (a b c d e : List ℕ) → length (a ++ b ++ c ++ d ++ e) ≡ length a + length b + length c + length d + length e
 five_sizes a b c d e = simp length-append

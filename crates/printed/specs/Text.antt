@@ -1,12 +1,11 @@
 -- The text of an answer, byte by byte (01, 'The printed plan').
-use Rattle.std.specs.Prelude.{ℕ, ◌≡◌, List, [], ◌∷◌, ◌++◌, length, drop, replicate}
+use Rattle.std.specs.Prelude.{ℕ, ◌≡◌, List, [], ◌∷◌, ◌++◌, length, drop, replicate, Ok, Err}
 use Rattle.street.specs.Codes.{code_number}
 use Rattle.street.specs.declared.Refusal.{Refusal}
 use Rattle.decimal.specs.Decimal.{decimal, signed_decimal}
 use Rattle.decimal.specs.Lines.{line}
 use Rattle.plans.specs.declared.Plan.{Plan}
-use Rattle.plans.specs.declared.Answer.{Answer}
-use Rattle.plans.specs.declared.Answer.TheVariants as answer
+use Rattle.plans.specs.Answers.{Answer}
 use Rattle.printed.specs.declared.Printed.{Printed}
 
 -- the most bytes that a text has room for
@@ -39,8 +38,8 @@ refusal_line f = line (refused_word ∷ decimal (code_number f.code) ∷ decimal
 
 -- the text of an answer whose offsets are those of the list
 abbrev pub text_of : Answer → List ℕ → List ℕ
-text_of (answer.Planned p) offsets = plan_line p ++ offset_lines offsets
-text_of (answer.Refused f) offsets = refusal_line f
+text_of (Ok p) offsets = plan_line p ++ offset_lines offsets
+text_of (Err f) offsets = refusal_line f
 
 -- a text as the printer hands it over: the bytes, zeros up to its end, and how many are text
 abbrev pub printed_of : List ℕ → Printed

@@ -1,5 +1,5 @@
 -- The whole way from a sheet's bytes to the printed text of its equal plan: the street by the form, the equal plan and the text, one after the other.
-use Rattle.std.specs.Prelude.{ℕ, ◌≡◌, cond, List, take, replicate, ltb}
+use Rattle.std.specs.Prelude.{ℕ, ◌≡◌, min, List, take, replicate}
 use Rattle.road.specs.Limits.{max_signals}
 use Rattle.street.specs.Lists.{Lists, signals}
 use Rattle.sheet.specs.Form.{ByForm}
@@ -10,7 +10,7 @@ use Rattle.printed.specs.Text.{text_of, refusal_line, Prints}
 
 -- how many entries are lent for a room: as many, but 32 at most
 abbrev pub lent_of : ℕ → ℕ
-lent_of room = cond (ltb room max_signals) room max_signals
+lent_of room = min room max_signals
 
 -- the text of a street's equal plan over a lent list of so many entries that are 0: the answer, and the offsets that it leaves there
 unfoldable pub plan_text : Lists → ℕ → List ℕ

@@ -11,9 +11,9 @@ ghost use Rattle.printed.specs.Text.{max_text, plan_line, offset_lines, refusal_
 ghost use Rattle.printed.specs.Way.{lent_of, plan_text, PrintsAnswer};
 
 use decimal::{LINE_END, SPACE, copy, write_ended, write_signed};
-use plans::{Answer, Plan};
+use plans::{Plan, Request};
 use sheet::Sheet;
-use street::{Refusal, Street, Verdict, code_number};
+use street::{Refusal, Street};
 
 // The printed bytes and how many they are; the rest of `bytes` is 0.
 #[derive(Clone, Copy)]
@@ -25,6 +25,14 @@ pub struct Printed {
 impl Printed {
     // Room for every text: a plan's first line takes at most 106 bytes, each of its offsets 11, and a refusal 50 (proofs/Sizes.antt).
     pub const MAX_BYTES: usize = 512;
+
+    // The bytes that were printed.
+    pub fn text(&self) -> &[u8]
+        requires { self.now.count ≤ length self.now.bytes }
+        ensures { result.now ≡ take self.now.count self.now.bytes }
+    {
+        &self.bytes[..self.count]
+    }
 }
 
 // The limit of the code is that of the definition. The body is empty: the contract is all there is to this.
@@ -50,8 +58,8 @@ fn offset_lines(bytes: &mut [u8], at: usize, offsets: &[u32]) -> usize
     ensures { Writes at (offset_lines offsets.now) bytes.old bytes.new result }
 {
     let mut next = at;
-    for i in 0..offsets.len() {
-        next = write_ended(bytes, next, offsets[i], LINE_END);
+    for offset in offsets {
+        next = write_ended(bytes, next, *offset, LINE_END);
     }
     next
 }
@@ -61,90 +69,57 @@ fn refusal_line(bytes: &mut [u8], refusal: Refusal) -> usize
     requires { length (refusal_line refusal) ≤ length bytes.old }
     ensures { Writes 0 (refusal_line refusal) bytes.old bytes.new result }
 {
-    let kind = refusal.code;
-    let code = code_number(kind);
     let word = copy(b"refused ", bytes);
-    let coded = write_ended(bytes, word, code, SPACE);
+    let coded = write_ended(bytes, word, refusal.code.into(), SPACE);
     write_ended(bytes, coded, refusal.place, LINE_END)
 }
 
 // An answer's lines, from the list's start.
-fn answer_lines(bytes: &mut [u8], answer: Answer, offsets: &[u32]) -> usize
+fn answer_lines(bytes: &mut [u8], answer: Result<Plan, Refusal>, offsets: &[u32]) -> usize
     requires { length (text_of answer offsets.now) ≤ length bytes.old }
     ensures { Writes 0 (text_of answer offsets.now) bytes.old bytes.new result }
 {
     match answer {
-        Answer::Planned(plan) => {
+        Ok(plan) => {
             let next = plan_line(bytes, 0, plan);
             offset_lines(bytes, next, offsets)
         }
-        Answer::Refused(refusal) => refusal_line(bytes, refusal),
+        Err(refusal) => refusal_line(bytes, refusal),
     }
-}
-
-// The whole text of an answer with these offsets.
-fn text(answer: Answer, offsets: &[u32]) -> Printed
-    requires { length offsets.now ≤ max_signals }
-    ensures { result ≡ printed_of (text_of answer offsets.now) }
-{
-    let mut bytes = [0u8; Printed::MAX_BYTES];
-    let count = answer_lines(&mut bytes, answer, offsets);
-    Printed { bytes, count }
 }
 
 // How many entries a list of some room has here: 32 are enough for every street.
 pub fn lent(room: usize) -> usize
     ensures { result ≡ lent_of room }
 {
-    if room < Street::MAX_SIGNALS {
-        return room;
-    }
-    Street::MAX_SIGNALS
+    room.min(Street::MAX_SIGNALS)
 }
 
-// The text of any call's answer, of whose offsets the first `signals` are printed, 32 at most.
-pub fn answer_text(answer: Answer, signals: usize, offsets: [u32; Street::MAX_SIGNALS]) -> Printed
-    ensures { Prints (text_of answer (take (lent_of signals) offsets)) result }
+// The text of any call's answer with the offsets that it left, of which 32 at most are printed.
+pub fn answer_text(answer: Result<Plan, Refusal>, offsets: &[u32]) -> Printed
+    ensures { Prints (text_of answer (take max_signals offsets.now)) result }
 {
-    let n = lent(signals);
-    text(answer, &offsets[..n])
+    let mut bytes = [0; Printed::MAX_BYTES];
+    let count = answer_lines(&mut bytes, answer, &offsets[..lent(offsets.len())]);
+    Printed { bytes, count }
 }
 
 // A sheet's numbers, planned and printed.
-fn planned(s: Sheet, room: usize) -> Printed
-    requires { Held s }
-    ensures { result ≡ printed_of (plan_text (lists_of s) room) }
+fn planned(sheet: &Sheet, room: usize) -> Printed
+    requires { Held sheet.now }
+    ensures { Prints (plan_text (lists_of sheet.now) room) result }
 {
-    let n = s.signals;
-    let links = n - 1;
-    let reds = s.reds;
-    let distances = s.distances;
-    let outbound = s.outbound;
-    let inbound = s.inbound;
-    let mut offsets = [0u32; Street::MAX_SIGNALS];
-    let k = lent(room);
-    let answer = plans::equal(
-        s.cycle,
-        &reds[..n],
-        &distances[..n],
-        &outbound[..links],
-        &inbound[..links],
-        &mut offsets[..k],
-    );
-    answer_text(answer, n, offsets)
+    let mut offsets = [0; Street::MAX_SIGNALS];
+    let answer = plans::plan_for(Request::Equal, &sheet.lists(), &mut offsets[..lent(room)]);
+    answer_text(answer, &offsets[..sheet.signals])
 }
 
 // The whole way: from a sheet's bytes to the printed bytes of its equal plan, over a lent list of `room` entries that are 0.
 pub fn equal_text(bytes: &[u8], room: usize) -> Printed
     ensures { PrintsAnswer bytes.now room result }
 {
-    let reading = sheet::read(bytes);
-    let verdict = reading.verdict;
-    match verdict {
-        Verdict::Refused(f) => text(Answer::Refused(f), &[]),
-        Verdict::Passed => {
-            let numbers = reading.sheet;
-            planned(numbers, room)
-        }
+    match sheet::read(bytes) {
+        Ok(sheet) => planned(&sheet, room),
+        Err(refusal) => answer_text(Err(refusal), &[]),
     }
 }

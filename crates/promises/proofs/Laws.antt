@@ -1,5 +1,6 @@
 -- Laws at rounded times that go beyond what a reply needs, of every street that the checks pass: two bands that are both open make 2B at most; under offsets of the method's form both
 -- directions are equally wide, whatever the phases; and beside a band of any width w, asked for or not, no offsets leave more than 2B - w. Assumes nothing.
+use Rattle.std.specs.Prelude.{Ok}
 use Prim.Native.Nat.{ℕ, ◌+◌, ◌*◌, ◌≤◌, ◌<◌}
 use mathlib.Core.Path.{◌≡◌, refl}
 use mathlib.Core.Bool.{true}
@@ -17,13 +18,12 @@ use Rattle.circle.proofs.Bands.{bound_signed}
 use Rattle.street.specs.Lists.{Lists}
 use Rattle.street.specs.Checks.{plan_checks}
 use Rattle.street.specs.Streets.{timed}
-use Rattle.street.specs.declared.Verdict.TheVariants.{Passed}
 use Rattle.promises.proofs.Streets.Passing.{fit, bounded, rising}
 use Rattle.promises.proofs.Streets.Directions.{near_rounded}
 use Rattle.promises.proofs.Bands.Widths.{width_passes, as_wide}
 use Rattle.promises.proofs.Kept.{rest}
 
-module _ (l : Lists) (room : ℕ) (passed : plan_checks l room ≡ Passed) where
+module _ (l : Lists) (room : ℕ) (passed : plan_checks l room ≡ (Ok tt)) where
   pub together_twice_B :
       (f : ℕ → ℕ) → let v = width (outbound_way (timed l) f) in let v' = width (inbound_way (timed l) f) in
       1 ≤ v → 1 ≤ v' → leℤ (pos (v + v')) (B (timed l) +ℤ B (timed l)) ≡ true

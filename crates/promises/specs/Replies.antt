@@ -1,7 +1,7 @@
 -- What is promised of a call's reply: of the numbers in every reply with code 0 that the call's contract allows, and of the offsets that the call leaves in the lent list. One notion says what a
 -- plan keeps, and it is promised at rounded times with nothing lost and at exact times with m halves lost (demand 3); the equal plan is the published method's own, platoons that differ leave a side 0
 -- only beside g, and no volume beyond the one that a reply names fits its band (demand 2).
-use Rattle.std.specs.Prelude.{ℕ, ◌+◌, ◌-◌, ◌*◌, ◌≤◌, ◌<◌, min, ◌≡◌, true, List, pos, ◌-ℤ◌, length, get_or}
+use Rattle.std.specs.Prelude.{ℕ, ◌+◌, ◌-◌, ◌*◌, ◌≤◌, ◌<◌, min, ◌≡◌, true, List, pos, ◌-ℤ◌, length, get_or, Ok}
 use Rattle.circle.specs.Man.{man}
 use Rattle.circle.specs.Method.{B, reference, offset, equal_width, red_end, red_start}
 use Rattle.circle.specs.Bands.{Way, clear, width}
@@ -10,17 +10,17 @@ use Rattle.street.specs.Limits.{max_volume}
 use Rattle.street.specs.Lists.{Lists, signals}
 use Rattle.street.specs.Checks.{plan_checks}
 use Rattle.street.specs.Streets.{timed, m}
-use Rattle.street.specs.declared.Verdict.TheVariants.{Passed}
 use Rattle.traffic.specs.Volumes.{platoon_of}
 use Rattle.widths.specs.Moved.{platoon_shift, shift_of}
 use Rattle.widths.specs.declared.Request.{Request}
 use Rattle.widths.specs.declared.Request.TheVariants.{Equal}
 use Rattle.widths.specs.declared.Shift.{Shift}
 use Rattle.widths.specs.declared.Shift.TheVariants.{Unmoved, Outbound, Inbound}
-use Rattle.plans.specs.Answers.{plan_verdict, plan_numbers}
+use Rattle.plans.specs.Answers.{plan_numbers}
+use Rattle.street.specs.Verdicts.{verdict_of}
 use Rattle.plans.specs.Requests.{Requested}
 use Rattle.plans.specs.Volumes.{Carries}
-use Rattle.plans.specs.declared.Answer.{Answer}
+use Rattle.plans.specs.Answers.{Answer}
 use Rattle.plans.specs.declared.Plan.{Plan}
 use Rattle.plans.specs.declared.Carried.{Carried}
 use Rattle.promises.specs.Exact.{Fine, Ways, rounded_ways, exact_ways}
@@ -72,7 +72,7 @@ KeptExact =
 
 -- there is such a unit for every street that the checks pass
 abbrev pub FineExists : Type 0
-FineExists = (l : Lists) (room : ℕ) → plan_checks l room ≡ Passed → (N : ℕ) × Fine l N
+FineExists = (l : Lists) (room : ℕ) → plan_checks l room ≡ (Ok tt) → (N : ℕ) × Fine l N
 
 -- 3. The equal plan is the published method's own (01, 'The equal plan'): the checks of every plan alone judge a call for it, and with code 0 the reply's numbers and the offset of each signal are
 -- the method's formulas at the reference c, nothing lowered
@@ -82,7 +82,7 @@ EqualIsMethod =
     let s = timed l in
     let c = reference s in
     let p = (plan_numbers r).plan in
-    (plan_verdict r ≡ plan_checks l (length entry))
+    (verdict_of r ≡ plan_checks l (length entry))
     × ((plan_numbers r).code ≡ 0 →
     (p.reference ≡ c + 1)
     × (p.b ≡ B s)
@@ -108,5 +108,5 @@ FitsUpTo C h w most =
 -- 5. The volumes beside a plan are the largest that its bands take, by the widths that the same reply has (02, 2026-03)
 abbrev pub LargestVolumes : Type 0
 LargestVolumes =
-    (out back h : ℕ) (l : Lists) (entry exit : List ℕ) (r : Carried) → Carries out back h l entry exit r → (plan_numbers r.answer).code ≡ 0 →
-    FitsUpTo l.cycle h (plan_numbers r.answer).plan.outbound r.outbound × FitsUpTo l.cycle h (plan_numbers r.answer).plan.inbound r.inbound
+    (out back h : ℕ) (l : Lists) (entry exit : List ℕ) (c : Carried) → Carries out back h l entry exit (Ok c) →
+    FitsUpTo l.cycle h c.plan.outbound c.outbound × FitsUpTo l.cycle h c.plan.inbound c.inbound

@@ -1,10 +1,9 @@
 -- Streets where every signal rests in green (02, 2026-05): what each reply has, which widths may be asked for, and what `measure` finds. Every other promise holds of them as it stands.
-use Rattle.std.specs.Prelude.{ℕ, ◌*◌, ◌<◌, ◌≡◌, List, pos, get_or, eqb}
+use Rattle.std.specs.Prelude.{ℕ, ◌*◌, ◌<◌, ◌≡◌, List, pos, get_or, eqb, Ok}
 use Rattle.street.specs.Lists.{Lists, signals}
 use Rattle.street.specs.Checks.{unless, plan_checks}
 use Rattle.street.specs.Streets.{timed}
 use Rattle.street.specs.declared.Code.TheVariants.{Width}
-use Rattle.street.specs.declared.Verdict.TheVariants.{Passed}
 use Rattle.widths.specs.Checks.{width_check}
 use Rattle.bands.specs.Measure.{measurement_of, band_numbers}
 use Rattle.promises.specs.Replies.{OfReplies}
@@ -25,7 +24,7 @@ RestingReplies =
 -- 7. A request for a width passes for H, and for no other width
 abbrev pub RestingWidths : Type 0
 RestingWidths =
-    (l : Lists) (room : ℕ) → plan_checks l room ≡ Passed → AllRest l → (w : ℕ) → width_check (timed l) w ≡ unless (eqb w (whole_cycle l)) Width
+    (l : Lists) (room : ℕ) → plan_checks l room ≡ (Ok tt) → AllRest l → (w : ℕ) → width_check (timed l) w ≡ unless (eqb w (whole_cycle l)) Width
 
 -- 8. Under all offsets that it takes `measure` finds the whole cycle from 0, both ways
 abbrev pub RestingMeasures : Type 0

@@ -1,14 +1,13 @@
 -- Document 01's rows 1 to 13, its street A and its examples of rounding, a school street for 02, 2026-02, volumes for 2026-03 and resting signals for 2026-05, as one table, with what is said of each row: the answer of the row's call and the
 -- list that it leaves, and where a row names an exact best, that some offsets attain it and none exceed it. Each list starts as 7, 7, 7, so that an entry that is not written shows.
-use Rattle.std.specs.Prelude.{ℕ, ◌≡◌, List, [], ◌∷◌, ◌++◌, ℤ, pos, negsuc, length}
+use Rattle.std.specs.Prelude.{ℕ, ◌≡◌, List, [], ◌∷◌, ◌++◌, ℤ, pos, negsuc, length, Ok, Err}
 use Rattle.circle.specs.Bands.{width}
 use Rattle.street.specs.Lists.{Lists}
 use Rattle.street.specs.declared.Code.{Code}
 use Rattle.street.specs.declared.Code.TheVariants.{Platoon, Width, Volume}
 use Rattle.widths.specs.declared.Request.{Request}
 use Rattle.widths.specs.declared.Request.TheVariants.{Equal, Outbound, Inbound, Platoons, Volumes}
-use Rattle.plans.specs.declared.Answer.{Answer}
-use Rattle.plans.specs.declared.Answer.TheVariants.{Planned, Refused}
+use Rattle.plans.specs.Answers.{Answer}
 use Rattle.plans.specs.Requests.{request_answer, request_after}
 use Rattle.widths.specs.declared.Shift.TheVariants.{Unmoved}
 use Rattle.promises.specs.Exact.{Fine, exact_ways}
@@ -63,7 +62,7 @@ street_A = two_signals 100 40 50 0 30000 10000 15000
 -- a plan by its reference, B, outbound and inbound width, m and the named bands' instants, in that order
 unfoldable pub plan : ℕ → ℤ → ℕ → ℕ → ℕ → ℕ → ℕ → Answer
 plan c B out back m starts ends =
-    Planned
+    Ok
     (record { reference = c; b = B; outbound = out; inbound = back; rounded = m; starts = starts; ends = ends })
 
 unfoldable pub row : Lists → Request → Answer → List ℕ → TableRow
@@ -76,7 +75,7 @@ best_row l request expected offsets v =
     record { street = l; request = request; expected = expected; offsets = offsets; best = best_is v }
 
 unfoldable pub refusal : Code → ℕ → Answer
-refusal code place = Refused (record { code = code; place = place })
+refusal code place = Err (record { code = code; place = place })
 
 -- the equal plans of rows 1 to 5, 9 and street A
 unfoldable pub equal_rows : List TableRow

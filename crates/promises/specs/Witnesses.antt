@@ -1,11 +1,10 @@
 -- Streets that show why no more is promised: they attain the bounds on what rounding costs, and one has a measured band that is not the named one (01, 'Moving width').
-use Rattle.std.specs.Prelude.{ℕ, ◌+◌, ◌*◌, ◌≡◌, false, List, [], ◌∷◌, pos, get_or}
+use Rattle.std.specs.Prelude.{ℕ, ◌+◌, ◌*◌, ◌≡◌, false, List, [], ◌∷◌, pos, get_or, Ok}
 use Rattle.circle.specs.Method.{reference, offset, equal_width, red_end, red_start}
 use Rattle.circle.specs.Bands.{Way, clear, width, inbound_way}
 use Rattle.street.specs.Lists.{Lists}
 use Rattle.street.specs.Checks.{plan_checks}
 use Rattle.street.specs.Streets.{timed, m}
-use Rattle.street.specs.declared.Verdict.TheVariants.{Passed}
 use Rattle.widths.specs.declared.Request.TheVariants.{Outbound}
 use Rattle.plans.specs.Requests.{request_answer, request_after}
 use Rattle.bands.specs.Measure as bands
@@ -15,7 +14,7 @@ use Rattle.promises.specs.Rows.{two_signals, plan}
 
 -- a street that passes the checks, has one rounded link, and has whole exact times in a unit of N to the half
 abbrev pub RoundedOnce : Lists → ℕ → Type 0
-RoundedOnce l N = (plan_checks l 2 ≡ Passed) × (m l ≡ 1) × Fine l N
+RoundedOnce l N = (plan_checks l 2 ≡ (Ok tt)) × (m l ≡ 1) × Fine l N
 
 -- the equal plan's offsets, in the unit
 abbrev pub own_offsets : Lists → ℕ → ℕ → ℕ

@@ -4,7 +4,10 @@ use mathlib.Core.Path.{◌≡◌}
 use mathlib.Core.List.{List}
 use native.Mathlib.Omega.{arith}
 use lib.ListN.{length, drop, get_or, replicate}
-use Rattle.circle.proofs.Numbers.{get_or-list_below, sum_rises}
+use Rattle.std.proofs.Common.{sym, ap, ◌∙◌, [], ◌++◌, append-nil}
+use Rattle.std.proofs.lemmas.List.{ext_get_or}
+use Rattle.circle.specs.Over.{list_below}
+use Rattle.circle.proofs.Numbers.{get_or-list_below, length_list_below, sum_rises}
 use Rattle.road.specs.Limits.{min_signals, max_signals}
 use Rattle.road.specs.Times.{link_ticks, time_to}
 use Rattle.road.specs.Steps.{max_time, Driveable, padded, road_of}
@@ -13,6 +16,17 @@ use Rattle.road.proofs.TimeLaws.{time_far}
 
 pub get_or-padded : (n : ℕ) (f : ℕ → ℕ) (k : ℕ) → k < n → get_or (padded n f) k 0 ≡ f k
 get_or-padded n f k l = get_or-list_below n f (drop n (replicate max_signals 0)) k 0 l
+
+-- a list as an array holds it
+pub padded_list : (xs : List ℕ) → xs ++ drop (length xs) (replicate max_signals 0) ≡ padded (length xs) (λ j. get_or xs j 0)
+padded_list xs =
+    let n = length xs in
+    let f : ℕ → ℕ = λ j. get_or xs j 0 in
+    let same : list_below n f ≡ xs =
+    ext_get_or 0 (list_below n f) xs (length_list_below n f) (λ k l.
+    let here : k < n = omega (arith, length_list_below n f) in
+    ap (λ (ys : List ℕ). get_or ys k 0) (sym (append-nil (list_below n f))) ∙ get_or-list_below n f [] k 0 here) in
+    ap (λ (ys : List ℕ). ys ++ drop n (replicate max_signals 0)) (sym same)
 
 -- one direction's times
 far : (ds vs : List ℕ) → Driveable ds vs → (n k : ℕ) → k < n → n ≤ length ds → get_or (padded n (time_to ds vs)) k 0 ≤ max_time

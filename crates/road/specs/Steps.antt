@@ -39,7 +39,3 @@ road_of n distances outbound inbound =
       inbound = padded n (time_to distances inbound);
       rounded = rounded_links n distances outbound inbound;
     }
-
--- the road that is put together of a count, two arrays and m
-abbrev pub laid : ℕ → List ℕ → List ℕ → ℕ → Road
-laid n outbound inbound m = record { signals = n; outbound = outbound; inbound = inbound; rounded = m }

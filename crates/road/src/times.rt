@@ -1,5 +1,5 @@
 // A link's times in ticks, each direction rounded by itself, and whether either was rounded (01, 'Travel time').
-ghost use Rattle.std.specs.Prelude.{◌≡◌, not, cond, ◌+◌, ◌-◌, ◌≤◌, ◌<◌, length, get_or};
+ghost use Rattle.std.specs.Prelude.{◌≡◌, not, ◌+◌, ◌-◌, ◌≤◌, ◌<◌, length, get_or};
 ghost use Rattle.circle.specs.Over.{◌or◌};
 ghost use Rattle.road.specs.Limits.{max_distance, min_speed, max_speed};
 ghost use Rattle.road.specs.Times.{ticks, whole, link_length, link_ticks, rounded_link};
@@ -12,12 +12,12 @@ struct LinkTime {
     whole: bool,
 }
 
-// A link: its ticks in each direction, and 1 where either was rounded, else 0.
+// A link: its ticks in each direction, and whether either was rounded.
 #[derive(Clone, Copy)]
 pub struct Link {
     pub outbound: u32,
     pub inbound: u32,
-    pub rounded: u32,
+    pub rounded: bool,
 }
 
 fn link_time(length: u32, speed: u32) -> LinkTime
@@ -41,21 +41,14 @@ fn link_length(distances: &[u32], k: usize) -> u32
     requires { (k + 1 < length distances.now) × (get_or distances.now k 0 ≤ get_or distances.now (k + 1) 0) }
     ensures { result ≡ link_length distances.now k }
 {
-    let next = k + 1;
-    distances[next] - distances[k]
+    distances[k + 1] - distances[k]
 }
 
-// 1 where a link's time was rounded in either direction, else 0.
-fn mark(outbound_whole: bool, inbound_whole: bool) -> u32
-    ensures { result ≡ cond (not outbound_whole or not inbound_whole) 1 0 }
+// Whether a link's time was rounded in either direction.
+fn rounded(outbound_whole: bool, inbound_whole: bool) -> bool
+    ensures { result ≡ (not outbound_whole or not inbound_whole) }
 {
-    if !outbound_whole {
-        return 1;
-    }
-    if !inbound_whole {
-        return 1;
-    }
-    0
+    !outbound_whole || !inbound_whole
 }
 
 // Link k: its time in each direction, and whether either was rounded.
@@ -63,7 +56,7 @@ pub fn link_times(distances: &[u32], outbound: &[u32], inbound: &[u32], k: usize
     requires { Driveable distances.now outbound.now × Driveable distances.now inbound.now × (k < length outbound.now) }
     ensures outbound { result.outbound ≡ link_ticks distances.now outbound.now k }
     ensures inbound { result.inbound ≡ link_ticks distances.now inbound.now k }
-    ensures rounded { result.rounded ≡ cond (rounded_link distances.now outbound.now inbound.now k) 1 0 }
+    ensures rounded { result.rounded ≡ rounded_link distances.now outbound.now inbound.now k }
 {
     let long = link_length(distances, k);
     let there = link_time(long, outbound[k]);
@@ -71,6 +64,6 @@ pub fn link_times(distances: &[u32], outbound: &[u32], inbound: &[u32], k: usize
     Link {
         outbound: there.ticks,
         inbound: home.ticks,
-        rounded: mark(there.whole, home.whole),
+        rounded: rounded(there.whole, home.whole),
     }
 }

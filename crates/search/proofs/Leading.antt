@@ -7,8 +7,9 @@ use mathlib.Core.List.{List, []}
 use native.Mathlib.Omega.{arith}
 use native.Mathlib.Decide.{ℕ_discrete}
 use lib.IntN.{pos, sub_ℕ}
-use lib.ListN.{length, get_or, set}
+use lib.ListN.{length, get_or, set, take}
 use lib.Seq.{get_or-set_same, get_or-set_other}
+use Rattle.std.proofs.lemmas.List.{get_or-take}
 use Rattle.circle.specs.Over.{least_below}
 use Rattle.circle.specs.Signed.{minℤ, or_zero}
 use Rattle.circle.specs.Method.{Timed, halves, has_red}
@@ -88,17 +89,17 @@ pub turning : (cycle n : ℕ) (reds x : List ℕ) (out back : ℕ → ℕ) → S
 turning cycle n reds x out back ok anchors =
     record { goes = ok.goes; on = λ k l. anchor_lt (timed_with cycle n reds out back) x k anchors l (omega (arith, ok.shortest)) }
 
--- and a candidate ranks by its row
+-- and a candidate ranks by the first n entries of its row
 pub candidate_is : (cycle n : ℕ) (reds x : List ℕ) (out back : ℕ → ℕ) (i : ℕ) (row : List (List ℕ)) (r : ℕ) →
-    Sound (timed_with cycle n reds out back) → Reduced (timed_with cycle n reds out back) x → i < n →
-    PairRow cycle n reds x i row → pos r ≡ rank_of n row (get_or reds i 0) → r ≡ rank (timed_with cycle n reds out back) i
-candidate_is cycle n reds x out back i row r ok anchors l filled e =
+    Sound (timed_with cycle n reds out back) → Reduced (timed_with cycle n reds out back) x → i < n → length (take n row) ≡ n →
+    PairRow cycle n reds x i row → pos r ≡ rank_of (length (take n row)) (take n row) (get_or reds i 0) → r ≡ rank (timed_with cycle n reds out back) i
+candidate_is cycle n reds x out back i row r ok anchors l all filled e =
     let s = timed_with cycle n reds out back in
     let turns : 0 < cycle = omega (arith, ok.shortest) in
-    rank_is s (fit_sound s ok) i row r
+    rank_is s (fit_sound s ok) i (take n row) r
     (λ j h.
-    pair-limit s i j (get_or x i 0) (get_or x j 0) (get_or row j []) turns (ok.goes j h) (anchors.each i l) (anchors.each j h) (filled.each j h))
-    e
+    pair-limit s i j (get_or x i 0) (get_or x j 0) (get_or (take n row) j []) turns (ok.goes j h) (anchors.each i l) (anchors.each j h) (get_or-take n row j [] h ∙ filled.each j h))
+    (e ∙ ap (λ (k : ℕ). rank_of k (take n row) (get_or reds i 0)) all)
 
 -- who leads after all candidates is the reference, with B
 pub leader_is : (s : Timed) → Fit s → (k signal most raised : ℕ) → k ≡ s.signals → Leading (rank s) k signal most → raised ≡ settled_of s.cycle most → Searched s (record { signal = signal; raised = raised })

@@ -6,37 +6,28 @@ ghost use Rattle.std.specs.Prelude.{◌≡◌, ◌*◌, ◌≤◌, ◌<◌, pos,
 ghost use Rattle.circle.specs.Over.{least_below};
 ghost use Rattle.road.specs.Limits.{max_signals};
 ghost use Rattle.street.specs.Limits.{max_cycle};
-ghost use Rattle.street.specs.Steps.{timed_by, Sound};
-ghost use Rattle.search.specs.Steps.{leaves_of, pair_of, Reduced, Turning, PairRow, wider, rank_of, settled_of, Finds};
+ghost use Rattle.street.specs.Steps.{timed_street};
+ghost use Rattle.search.specs.Steps.{leaves_of, pair_of, Reduced, Turning, PairRow, wider, rank_of, settled_of, Searched, Finds};
 
 use street::Street;
 
 // What the search settles on: the reference's index, counted from 0, and B raised by H.
-#[derive(Clone, Copy)]
+#[derive(Clone, Copy, Debug, PartialEq, Eq)]
 pub struct Candidate {
     pub signal: usize,
     pub raised: u32,
 }
 
-// Writes each signal's anchor: its red less its two sums, reduced to the cycle.
-pub fn reduce(
-    cycle: u32,
-    n: usize,
-    reds: &[u32; Street::MAX_SIGNALS],
-    outbound: &[u32; Street::MAX_SIGNALS],
-    inbound: &[u32; Street::MAX_SIGNALS],
-    x: &mut [u32; Street::MAX_SIGNALS],
-)
-    requires { Sound (timed_by cycle n reds.now outbound.now inbound.now) × (n ≤ length x.old) }
-    ensures { Reduced (timed_by cycle n reds.now outbound.now inbound.now) x.new }
+// Each signal's anchor: its red less its two sums, reduced to the cycle.
+pub fn reduce(s: &Street) -> [u32; Street::MAX_SIGNALS]
+    ensures { Reduced (timed_street s.now) result }
 {
-    let count = street::bounded(n);
-    let h = 2 * cycle;
-    let mut k: usize = 0;
-    while k < count {
-        x[k] = circle::remainder(h, reds[k], outbound[k] + inbound[k]);
-        k += 1;
+    let h = 2 * s.cycle;
+    let mut anchors = [0; Street::MAX_SIGNALS];
+    for k in 0..street::bounded(s.road.signals) {
+        anchors[k] = circle::remainder(h, s.reds[k], s.road.outbound[k] + s.road.inbound[k]);
     }
+    anchors
 }
 
 // What a limit leaves, raised, where so much of the cycle is gone before its red: the whole cycle where it rests. The choice comes
@@ -62,49 +53,45 @@ pub fn pair(cycle: u32, from: u32, to: u32, red: u32) -> [u32; 2]
     [leaves(cycle, red, even), leaves(cycle, red, odd)]
 }
 
-// Fills a candidate's row: a pair of raised widths for each limit.
+// Fills the row of the candidate i: a pair of raised widths for each limit.
 fn fill(
     cycle: u32,
-    reds: &[u32; Street::MAX_SIGNALS],
-    x: &[u32; Street::MAX_SIGNALS],
-    n: usize,
+    reds: &[u32],
+    anchors: &[u32],
     i: usize,
-    pairs: &mut [[u32; 2]; Street::MAX_SIGNALS],
+    row: &mut [[u32; 2]; Street::MAX_SIGNALS],
 )
-    requires { (1 ≤ cycle) × (cycle ≤ max_cycle) × (n ≤ max_signals) × (i < n) × Turning cycle n reds.now x.now × (n ≤ length pairs.old) }
-    ensures { PairRow cycle n reds.now x.now i pairs.new × (length pairs.new ≡ length pairs.old) }
+    requires { (1 ≤ cycle) × (cycle ≤ max_cycle) × (i < length reds.now) × (length reds.now ≤ max_signals)
+        × (length anchors.now ≡ length reds.now) × Turning cycle (length reds.now) reds.now anchors.now }
+    ensures { PairRow cycle (length reds.now) reds.now anchors.now i row.new }
 {
-    let from = x[i];
-    let mut j: usize = 0;
-    while j < n {
-        pairs[j] = pair(cycle, from, x[j], reds[j]);
-        j += 1;
+    let from = anchors[i];
+    for j in 0..reds.len() {
+        row[j] = pair(cycle, from, anchors[j], reds[j]);
     }
 }
 
 // The least over the limits of the larger width of each pair: a candidate's b(i), raised.
-fn least(pairs: &[[u32; 2]; Street::MAX_SIGNALS], n: usize) -> u32
-    requires { (1 ≤ n) × (n ≤ max_signals) }
-    ensures { pos result ≡ least_below n (λ j. pos (wider pairs.now j)) }
+fn least(row: &[[u32; 2]]) -> u32
+    requires { 1 ≤ length row.now }
+    ensures { pos result ≡ least_below (length row.now) (λ j. pos (wider row.now j)) }
 {
-    let mut low = circle::larger(pairs[0][0], pairs[0][1]);
-    let mut limit: usize = 0;
-    while limit < n {
-        low = circle::smaller(low, circle::larger(pairs[limit][0], pairs[limit][1]));
-        limit += 1;
+    let mut low = row[0][0].max(row[0][1]);
+    for widths in row {
+        low = low.min(widths[0].max(widths[1]));
     }
     low
 }
 
 // How a candidate ranks: by b(i), raised, and last where it rests.
-fn rank(pairs: &[[u32; 2]; Street::MAX_SIGNALS], n: usize, red: u32) -> u32
-    requires { (1 ≤ n) × (n ≤ max_signals) }
-    ensures { pos result ≡ rank_of n pairs.now red }
+fn rank(row: &[[u32; 2]], red: u32) -> u32
+    requires { 1 ≤ length row.now }
+    ensures { pos result ≡ rank_of (length row.now) row.now red }
 {
     if red == 0 {
         return 0;
     }
-    least(pairs, n)
+    least(row)
 }
 
 // B, raised, from the greatest rank, which is 0 where every signal rests.
@@ -120,33 +107,36 @@ fn settled(cycle: u32, most: u32) -> u32
 
 // The widths of every ordered pair under both phases, one row per candidate, filled once; and then the search over them for the
 // first candidate with a red and the greatest b(i).
-pub fn reference(
-    cycle: u32,
-    n: usize,
-    reds: &[u32; Street::MAX_SIGNALS],
-    x: &[u32; Street::MAX_SIGNALS],
-) -> Candidate
-    requires { (1 ≤ cycle) × (cycle ≤ max_cycle) × (1 ≤ n) × (n ≤ max_signals) × Turning cycle n reds.now x.now }
-    ensures { Finds cycle n reds.now x.now result }
+pub fn reference(cycle: u32, reds: &[u32], anchors: &[u32]) -> Candidate
+    requires { (1 ≤ cycle) × (cycle ≤ max_cycle) × (1 ≤ length reds.now) × (length reds.now ≤ max_signals)
+        × (length anchors.now ≡ length reds.now) × Turning cycle (length reds.now) reds.now anchors.now }
+    ensures { Finds cycle (length reds.now) reds.now anchors.now result }
 {
-    let count = street::bounded(n);
-    let mut widths = [[[0u32; 2]; Street::MAX_SIGNALS]; Street::MAX_SIGNALS];
-    let mut i: usize = 0;
-    while i < count {
-        fill(cycle, reds, x, count, i, &mut widths[i]);
-        i += 1;
+    let n = street::bounded(reds.len());
+    let mut widths = [[[0; 2]; Street::MAX_SIGNALS]; Street::MAX_SIGNALS];
+    for i in 0..n {
+        fill(cycle, reds, anchors, i, &mut widths[i]);
     }
-    let mut signal: usize = 0;
-    let mut most = rank(&widths[0], count, reds[0]);
-    let mut k: usize = 1;
-    while k < count {
-        let candidate = rank(&widths[k], count, reds[k]);
+    let mut signal = 0;
+    let mut most = rank(&widths[0][..n], reds[0]);
+    for k in 1..n {
+        let candidate = rank(&widths[k][..n], reds[k]);
         if most < candidate {
             most = candidate;
             signal = k;
         }
-        k += 1;
     }
-    let raised = settled(cycle, most);
-    Candidate { signal, raised }
+    Candidate {
+        signal,
+        raised: settled(cycle, most),
+    }
+}
+
+// The search on a street, from its signals' anchors.
+pub fn search(s: &Street, anchors: &[u32; Street::MAX_SIGNALS]) -> Candidate
+    requires { Reduced (timed_street s.now) anchors.now }
+    ensures { Searched (timed_street s.now) result }
+{
+    let n = s.road.signals;
+    reference(s.cycle, &s.reds[..n], &anchors[..n])
 }

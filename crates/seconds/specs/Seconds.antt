@@ -3,7 +3,7 @@ use Rattle.std.specs.Prelude.{ℕ, ◌+◌, ◌*◌, ◌/◌, ◌%◌, ◌≤◌
 use Rattle.circle.specs.Man.{man}
 use Rattle.street.specs.Checks.{unless}
 use Rattle.street.specs.declared.Code.TheVariants.{Seconds}
-use Rattle.street.specs.declared.Verdict.{Verdict}
+use Rattle.street.specs.Verdicts.{Verdict}
 
 -- a second in ticks, and in halves
 abbrev pub second_ticks : ℕ

@@ -4,21 +4,22 @@ use Prim.Native.Nat.{ℕ}
 use mathlib.Core.Logic.{◌⊎◌, inl, inr, ⊎_elim}
 use mathlib.Core.Path.{◌≡◌, refl, sym, ap, subst, ◌∙◌}
 use mathlib.Core.List.{List}
+use Rattle.std.specs.Prelude.{Result, Ok, Err}
 use Rattle.street.specs.Lists.{Lists}
 use Rattle.street.specs.declared.Code.{Code}
 use Rattle.street.specs.declared.Code.TheVariants.{Sheet, Count}
-use Rattle.sheet.specs.declared.Reading.{Reading}
 use Rattle.sheet.specs.Form.{text, Writable, CountFault, ByForm}
-use Rattle.sheet.specs.Reading.{passing, refusing, Reads}
-use Rattle.sheet.specs.Steps.Parsed.{Parsed, accepted, refused, parsed, to_reading, reading_of}
+use Rattle.sheet.specs.Reading.{Reading, passing, refusing, Reads}
+use Rattle.sheet.specs.Steps.Parsed.{parsed, to_reading, reading_of}
 use Rattle.sheet.proofs.Codes.{own_codes}
-use Rattle.sheet.proofs.Form.{not_accepted, text_is_accepted, accepted_is_text}
+use Rattle.sheet.proofs.Backwards.{not_read}
+use Rattle.sheet.proofs.Form.{text_is_accepted, accepted_is_text}
 use Rattle.sheet.proofs.Counts.{refusals_differ, miscount_is_refused, refused_is_miscount}
 
 -- what is said of an outcome of the reader
-abbrev pub Comes : (Lists → Type 0) → (Code → Type 0) → Parsed → Type 0
-Comes street refusal (accepted l) = street l
-Comes street refusal (refused c) = refusal c
+abbrev pub Comes : (Lists → Type 0) → (Code → Type 0) → Result Lists Code → Type 0
+Comes street refusal (Ok l) = street l
+Comes street refusal (Err c) = refusal c
 
 -- no street's text, and no wrong count
 pub record Broken (bytes : List ℕ) : Type 0 where
@@ -26,20 +27,20 @@ pub record Broken (bytes : List ℕ) : Type 0 where
   pub no_miscount : CountFault bytes → ⊥
 
 -- code 1 exactly where the bytes are no street's text and have no wrong count
-pub refused_is_broken : (bytes : List ℕ) → parsed bytes ≡ refused Sheet → Broken bytes
+pub refused_is_broken : (bytes : List ℕ) → parsed bytes ≡ Err Sheet → Broken bytes
 refused_is_broken bytes q =
     record {
-      no_street_lem = λ l w e. not_accepted Sheet l (sym q ∙ ap parsed e ∙ text_is_accepted l w);
+      no_street_lem = λ l w e. not_read Sheet l (sym q ∙ ap parsed e ∙ text_is_accepted l w);
       no_miscount = λ f. refusals_differ (sym q ∙ miscount_is_refused bytes f);
     }
 
-pub broken_is_refused : (bytes : List ℕ) → Broken bytes → parsed bytes ≡ refused Sheet
+pub broken_is_refused : (bytes : List ℕ) → Broken bytes → parsed bytes ≡ Err Sheet
 broken_is_refused bytes b = go (parsed bytes) refl
   where
-    go : (p : Parsed) → parsed bytes ≡ p → p ≡ refused Sheet
-    go (accepted l) q = let w = accepted_is_text bytes l q in absurd (b.no_street_lem l w.1 w.0)
-    go (refused c) q =
-        ⊎_elim (λ e. ap refused e) (λ e. absurd (b.no_miscount (refused_is_miscount bytes (q ∙ ap refused e)))) (own_codes bytes c q)
+    go : (p : Result Lists Code) → parsed bytes ≡ p → p ≡ Err Sheet
+    go (Ok l) q = let w = accepted_is_text bytes l q in absurd (b.no_street_lem l w.1 w.0)
+    go (Err c) q =
+        ⊎_elim (λ e. ap Err e) (λ e. absurd (b.no_miscount (refused_is_miscount bytes (q ∙ ap Err e)))) (own_codes bytes c q)
 
 module _ {bytes : List ℕ} {street : Lists → Type 0} {refusal : Code → Type 0} where
   -- from the reader's outcome to the form
@@ -55,15 +56,15 @@ module _ {bytes : List ℕ} {street : Lists → Type 0} {refusal : Code → Type
   pub by_outcome : ByForm bytes street refusal → Comes street refusal (parsed bytes)
   by_outcome f = go (parsed bytes) refl
     where
-      go : (p : Parsed) → parsed bytes ≡ p → Comes street refusal p
-      go (accepted l) q = let w = accepted_is_text bytes l q in f.of_text l w.1 w.0
-      go (refused c) q = ⊎_elim sheet count (own_codes bytes c q)
+      go : (p : Result Lists Code) → parsed bytes ≡ p → Comes street refusal p
+      go (Ok l) q = let w = accepted_is_text bytes l q in f.of_text l w.1 w.0
+      go (Err c) q = ⊎_elim sheet count (own_codes bytes c q)
         where
           sheet : c ≡ Sheet → refusal c
-          sheet e = let b = refused_is_broken bytes (q ∙ ap refused e) in subst refusal (sym e) (f.of_others b.no_street_lem b.no_miscount)
+          sheet e = let b = refused_is_broken bytes (q ∙ ap Err e) in subst refusal (sym e) (f.of_others b.no_street_lem b.no_miscount)
 
           count : c ≡ Count → refusal c
-          count e = subst refusal (sym e) (f.of_miscount (refused_is_miscount bytes (q ∙ ap refused e)))
+          count e = subst refusal (sym e) (f.of_miscount (refused_is_miscount bytes (q ∙ ap Err e)))
 
 -- ---- three cases, of which one holds
 
@@ -77,16 +78,16 @@ pub record Written (bytes : List ℕ) : Type 0 where
 pub one_holds : (bytes : List ℕ) → Written bytes ⊎ (CountFault bytes ⊎ Broken bytes)
 one_holds bytes = go (parsed bytes) refl
   where
-    go : (p : Parsed) → parsed bytes ≡ p → Written bytes ⊎ (CountFault bytes ⊎ Broken bytes)
-    go (accepted l) q = let w = accepted_is_text bytes l q in inl (record { street = l; writable = w.1; is_text = w.0 })
-    go (refused c) q =
+    go : (p : Result Lists Code) → parsed bytes ≡ p → Written bytes ⊎ (CountFault bytes ⊎ Broken bytes)
+    go (Ok l) q = let w = accepted_is_text bytes l q in inl (record { street = l; writable = w.1; is_text = w.0 })
+    go (Err c) q =
         inr
-        (⊎_elim (λ e. inr (refused_is_broken bytes (q ∙ ap refused e))) (λ e. inl (refused_is_miscount bytes (q ∙ ap refused e))) (own_codes bytes c q))
+        (⊎_elim (λ e. inr (refused_is_broken bytes (q ∙ ap Err e))) (λ e. inl (refused_is_miscount bytes (q ∙ ap Err e))) (own_codes bytes c q))
 
 -- and no two of them; a broken sheet is neither of the others as it stands
 pub no_two_hold : (bytes : List ℕ) → Written bytes → CountFault bytes → ⊥
 no_two_hold bytes w f =
-    not_accepted Count w.street (sym (miscount_is_refused bytes f) ∙ ap parsed w.is_text ∙ text_is_accepted w.street w.writable)
+    not_read Count w.street (sym (miscount_is_refused bytes f) ∙ ap parsed w.is_text ∙ text_is_accepted w.street w.writable)
 
 -- ---- what is said by the form
 
@@ -126,6 +127,6 @@ same_by_form {A} bytes of_street of_code x y p q =
 pub reads : {bytes : List ℕ} {r : Reading} → r ≡ reading_of bytes → Reads bytes r
 reads {bytes} {r} e = by_form (go (parsed bytes) e)
   where
-    go : (p : Parsed) → r ≡ to_reading p → Comes (λ l. r ≡ passing l) (λ c. r ≡ refusing c) p
-    go (accepted l) e = e
-    go (refused c) e = e
+    go : (p : Result Lists Code) → r ≡ to_reading p → Comes (λ l. r ≡ passing l) (λ c. r ≡ refusing c) p
+    go (Ok l) e = e
+    go (Err c) e = e

@@ -1,96 +1,77 @@
 -- The reader answers codes 1 and 2 only: a line that cannot be read is code 1, a count that is judged and wrong is code 2, and nothing else refuses.
 -- Each step passes on a fault of those two kinds or makes one. Assumes nothing.
-use Prim.Native.Nat.{ℕ, zero, suc, ◌-◌}
+use Prim.Native.Nat.{ℕ, ◌-◌}
 use mathlib.Core.Bool.{Bool, true, false, cond}
 use mathlib.Core.Logic.{◌⊎◌, inl, inr}
 use mathlib.Core.Path.{◌≡◌, refl, subst}
 use mathlib.Core.List.{List, [], ◌∷◌}
 use lib.Dec.{leb}
 use lib.ListN.{length}
+use Rattle.std.specs.Prelude.{Option, Some, None, Result, Ok, Err, ok_or}
 use Rattle.road.specs.Limits.{min_signals, max_signals}
 use Rattle.street.specs.Lists.{Lists}
 use Rattle.street.specs.Checks.{within}
 use Rattle.street.specs.declared.Code.{Code}
 use Rattle.street.specs.declared.Code.TheVariants.{Sheet, Count}
+use Rattle.decimal.specs.Lines.{line_end}
 use Rattle.sheet.specs.Form.{max_bytes}
-use Rattle.sheet.specs.Steps.Numbers.{Taken, followed, ended, unreadable, number, then_line, then_space}
-use Rattle.sheet.specs.Steps.Sections.{Lines, lines, fault, above, pairs, section, cycle_section}
-use Rattle.sheet.specs.Steps.Parsed.{Parsed, accepted, refused, parsed, after_cycle, after_signals, at_end, then_lines}
+use Rattle.sheet.specs.Steps.Numbers.{number}
+use Rattle.sheet.specs.Steps.Sections.{pairs, goes_on, judged_count, section, cycle_section}
+use Rattle.sheet.specs.Steps.Parsed.{parsed, after_cycle, after_signals, at_end}
 
 -- one of the reader's two codes
 abbrev pub Own : Code → Type 0
 Own c = (c ≡ Sheet) ⊎ (c ≡ Count)
 
-abbrev OwnFault : Lines → Type 0
-OwnFault (lines xs ys rest) = Unit
-OwnFault (fault c) = Own c
+abbrev OwnFault : {A : Type 0} → Result A Code → Type 0
+OwnFault (Ok x) = Unit
+OwnFault (Err c) = Own c
 
-abbrev OwnRefusal : Parsed → Type 0
-OwnRefusal (accepted l) = Unit
-OwnRefusal (refused c) = Own c
+nothing_own : {A : Type 0} (o : Option A) → OwnFault (ok_or o Sheet)
+nothing_own None = inl refl
+nothing_own (Some x) = tt
 
-module _ {A : Type 0} (P : A → Type 0) (f : A) (at-fault : P f) (next : ℕ → List ℕ → A) (later : (x : ℕ) (rest : List ℕ) → P (next x rest)) where
-  after_space : (t : Taken) → P (then_space f t next)
-  after_space (followed x rest) = later x rest
-  after_space (ended x rest) = at-fault
-  after_space unreadable = at-fault
+module _ {A B : Type 0} (next : A → Result B Code) (later : (x : A) → OwnFault (next x)) where
+  goes_on_own : (r : Result A Code) → OwnFault r → OwnFault (goes_on next r)
+  goes_on_own (Ok x) o = later x
+  goes_on_own (Err c) o = o
 
-  after_line : (t : Taken) → P (then_line f t next)
-  after_line (followed x rest) = at-fault
-  after_line (ended x rest) = later x rest
-  after_line unreadable = at-fault
+test_own : {A : Type 0} (x y : Result A Code) → OwnFault x → OwnFault y → (t : Bool) → OwnFault (cond t x y)
+test_own x y o p true = o
+test_own x y o p false = p
 
-after_test : {A : Type 0} (P : A → Type 0) (a b : A) → P a → P b → (t : Bool) → P (cond t a b)
-after_test P a b p q true = p
-after_test P a b p q false = q
-
-above_own : (x y : ℕ) (l : Lines) → OwnFault l → OwnFault (above x y l)
-above_own x y (lines xs ys rest) o = tt
-above_own x y (fault c) o = o
-
-pairs_own : (n : ℕ) (bytes : List ℕ) → OwnFault (pairs n bytes)
-unfolding pairs
-pairs_own zero bytes = tt
-pairs_own (suc n) bytes =
-    after_space OwnFault (fault Sheet) (inl refl) _
-    (λ x rest. after_line OwnFault (fault Sheet) (inl refl) _ (λ y after. above_own x y (pairs n after) (pairs_own n after)) (number rest))
-    (number bytes)
+counted_own : (least most : ℕ) (bytes : List ℕ) → OwnFault (judged_count least most bytes)
+unfolding judged_count
+counted_own least most bytes =
+    goes_on_own _ (λ t. test_own (Ok t) (Err Count) tt (inr refl) (within least most t.0)) (ok_or (number line_end bytes) Sheet) (nothing_own (number line_end bytes))
 
 section_own : (least most : ℕ) (bytes : List ℕ) → OwnFault (section least most bytes)
 unfolding section
-section_own least most bytes =
-    after_line OwnFault (fault Sheet) (inl refl) _
-    (λ n rest. after_test OwnFault (pairs n rest) (fault Count) (pairs_own n rest) (inr refl) (within least most n))
-    (number bytes)
+section_own least most bytes = goes_on_own _ (λ t. nothing_own (pairs t.0 t.1)) (judged_count least most bytes) (counted_own least most bytes)
 
-after_lines : (next : List ℕ → List ℕ → List ℕ → Parsed) →
-    ((xs ys rest : List ℕ) → OwnRefusal (next xs ys rest)) → (l : Lines) → OwnFault l → OwnRefusal (then_lines l next)
-after_lines next later (lines xs ys rest) o = later xs ys rest
-after_lines next later (fault c) o = o
-
-end_own : (l : Lists) (bytes : List ℕ) → OwnRefusal (at_end l bytes)
+end_own : (l : Lists) (bytes : List ℕ) → OwnFault (at_end l bytes)
 end_own l [] = tt
 end_own l (b ∷ bytes) = inl refl
 
-links_own : (cycle : ℕ) (distances reds bytes : List ℕ) → OwnRefusal (after_signals cycle distances reds bytes)
+links_own : (cycle : ℕ) (distances reds bytes : List ℕ) → OwnFault (after_signals cycle distances reds bytes)
 unfolding after_signals
 links_own cycle distances reds bytes =
     let n : ℕ = length reds - 1 in
-    after_lines _ (λ outbound inbound end. end_own _ end) (section n n bytes) (section_own n n bytes)
+    goes_on_own _ (λ t. end_own _ t.2) (section n n bytes) (section_own n n bytes)
 
-signals_own : (cycle : ℕ) (bytes : List ℕ) → OwnRefusal (after_cycle cycle bytes)
+signals_own : (cycle : ℕ) (bytes : List ℕ) → OwnFault (after_cycle cycle bytes)
 unfolding after_cycle
 signals_own cycle bytes =
-    after_lines _ (λ distances reds rest. links_own cycle distances reds rest) (section min_signals max_signals bytes) (section_own min_signals max_signals bytes)
+    goes_on_own _ (λ t. links_own cycle t.0 t.1 t.2) (section min_signals max_signals bytes) (section_own min_signals max_signals bytes)
 
-own : (bytes : List ℕ) → OwnRefusal (parsed bytes)
+own : (bytes : List ℕ) → OwnFault (parsed bytes)
 unfolding parsed
 own bytes =
-    after_test OwnRefusal (then_line (refused Sheet) (cycle_section bytes) (λ c r. after_cycle c r)) (refused Sheet)
-    (after_line OwnRefusal (refused Sheet) (inl refl) _ (λ c r. signals_own c r) (cycle_section bytes))
+    test_own _ (Err Sheet)
+    (goes_on_own _ (λ t. signals_own t.0 t.1) (ok_or (cycle_section bytes) Sheet) (nothing_own (cycle_section bytes)))
     (inl refl)
     (leb (length bytes) max_bytes)
 
 -- the reader's refusals have code 1 or 2
-pub own_codes : (bytes : List ℕ) (c : Code) → parsed bytes ≡ refused c → (c ≡ Sheet) ⊎ (c ≡ Count)
-own_codes bytes c e = subst OwnRefusal e (own bytes)
+pub own_codes : (bytes : List ℕ) (c : Code) → parsed bytes ≡ Err c → (c ≡ Sheet) ⊎ (c ≡ Count)
+own_codes bytes c e = subst OwnFault e (own bytes)

@@ -9,12 +9,10 @@ use lib.Dec.{lit<, lit≤}
 use Rattle.street.specs.Lists.{Lists}
 use Rattle.street.specs.declared.Code.TheVariants as code
 use Rattle.decimal.specs.Decimal.{digits_up_to}
-use Rattle.sheet.specs.declared.Reading.{Reading}
 use Rattle.sheet.specs.Form.{text, pair_lines, Writable, CountFault}
-use Rattle.sheet.specs.Reading.{passing, refusing}
-use Rattle.sheet.specs.Steps.Kinds.{kind_of}
-use Rattle.sheet.specs.Steps.Numbers.{more, number}
-use Rattle.sheet.specs.Steps.Sections.{pairs, section, cycle_section}
+use Rattle.sheet.specs.Reading.{Reading, passing, refusing}
+use Rattle.sheet.specs.Steps.Numbers.{digit_of, more, number}
+use Rattle.sheet.specs.Steps.Sections.{pair, pairs, judged_count, section, cycle_section}
 use Rattle.sheet.specs.Steps.Parsed.{reading_of, parsed, after_cycle, after_signals}
 use Rattle.sheet.proofs.ByForm.{Written, Broken, refused_is_broken}
 
@@ -62,7 +60,7 @@ unfolding text pair_lines digits_up_to
 text_a = refl
 
 pub reading_a : reading_of sheet_A ≡ passing street_A
-unfolding parsed after_cycle after_signals cycle_section section pairs number more kind_of
+unfolding parsed after_cycle after_signals cycle_section section judged_count pairs pair number more digit_of
 reading_a = refl
 
 -- bytes, and what the reader answers for them
@@ -105,7 +103,7 @@ runs =
     ∷ []
 
 pub runs_hold : Hold runs
-unfolding parsed after_cycle after_signals cycle_section section pairs number more kind_of
+unfolding parsed after_cycle after_signals cycle_section section judged_count pairs pair number more digit_of
 runs_hold =
     (refl, (refl, (refl, (refl, (refl, (refl, (refl, (refl, (refl, (refl, (refl, (refl, (refl, (refl, (refl, (refl, tt))))))))))))))))
 
@@ -153,5 +151,5 @@ links_miscounted =
 
 -- a byte after the last line
 pub broken_a : Broken (sheet_A ++ 10 ∷ [])
-unfolding parsed after_cycle after_signals cycle_section section pairs number more kind_of
+unfolding parsed after_cycle after_signals cycle_section section judged_count pairs pair number more digit_of
 broken_a = refused_is_broken (sheet_A ++ 10 ∷ []) refl

@@ -1,7 +1,4 @@
 pub mod Examples
-pub mod ByteKinds
-pub mod Numbers
-pub mod Otherwise
 pub mod Lines
 pub mod Backwards
 pub mod Sections

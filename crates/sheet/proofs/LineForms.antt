@@ -2,19 +2,21 @@
 -- laws of Decimals, and only brackets move between a form and the bytes that are read. Assumes nothing.
 use Prim.Native.Nat.{ℕ, zero, suc, ◌≤◌}
 use mathlib.Core.Bool.{cond}
-use mathlib.Core.Path.{◌≡◌, refl, sym, ap, subst, subst₂, ◌∙◌}
+use mathlib.Core.Path.{◌≡◌, refl, sym, ap, subst, ◌∙◌}
 use mathlib.Core.List.{List, [], ◌∷◌, ◌++◌, append_assoc}
 use native.Mathlib.Omega.{arith}
 use lib.Dec.{eqb, lit<}
 use lib.ListN.{length}
 use borrow.Author.Tests.{le-leb, eqb-true}
+use Rattle.std.specs.Prelude.{Some, None, Ok, ok_or}
+use Rattle.street.specs.declared.Code.TheVariants.{Sheet}
 use Rattle.decimal.specs.Decimal.{decimal}
 use Rattle.decimal.specs.Lines.{space, line_end}
 use Rattle.sheet.specs.Form.{pair_lines, EightDigits, AllEightDigits}
-use Rattle.sheet.specs.Steps.Numbers.{Taken, followed, ended, unreadable, number}
-use Rattle.sheet.specs.Steps.Sections.{lines, pairs, section, cycle_section}
-use Rattle.sheet.proofs.Backwards.{past-line, past_test, past-pair, FirstLine}
-use Rattle.sheet.proofs.Sections.{Counted, section-counted, pairs_length, Judged, past-section}
+use Rattle.sheet.specs.Steps.Numbers.{number}
+use Rattle.sheet.specs.Steps.Sections.{Lines, pair, pairs, judged_count, section, cycle_section}
+use Rattle.sheet.proofs.Backwards.{past_some, past_test, past_pairs, FirstLine}
+use Rattle.sheet.proofs.Sections.{Counted, section-counted, pairs_length, SectionOf, past-section}
 use Rattle.sheet.proofs.Decimals.{space_read, line_read, Wrote, number_wrote}
 
 -- a line of two numbers and the bytes after it
@@ -26,8 +28,8 @@ pair-first x y xs ys rest = simp append_assoc
 -- ---- what is written is read
 
 pub pairs_read : (xs ys rest : List ℕ) → length ys ≡ length xs → AllEightDigits xs → AllEightDigits ys →
-    pairs (length xs) (pair_lines xs ys ++ rest) ≡ lines xs ys rest
-unfolding pairs
+    pairs (length xs) (pair_lines xs ys ++ rest) ≡ Some (xs, ys, rest)
+unfolding pairs pair
 pairs_read [] [] rest e s t = unfold pair_lines in refl
 pairs_read [] (y ∷ ys) rest e s t = absurd (omega arith)
 pairs_read (x ∷ xs) [] rest e s t = absurd (omega arith)
@@ -38,83 +40,70 @@ pairs_read (x ∷ xs) (y ∷ ys) rest e s t =
     refl
 
 pub section_read : (least most n : ℕ) (rest : List ℕ) → least ≤ n → n ≤ most → EightDigits n →
-    section least most (decimal n ++ line_end ∷ rest) ≡ pairs n rest
-unfolding section
+    section least most (decimal n ++ line_end ∷ rest) ≡ ok_or (pairs n rest) Sheet
+unfolding section judged_count
 section_read least most n rest low high s = rw (line_read n rest s, le-leb least n low, le-leb n most high) refl
 
-pub cycle_read : (cycle : ℕ) (rest : List ℕ) → EightDigits cycle → cycle_section (decimal 1 ++ line_end ∷ (decimal cycle ++ line_end ∷ rest)) ≡ ended cycle rest
+pub cycle_read : (cycle : ℕ) (rest : List ℕ) → EightDigits cycle → cycle_section (decimal 1 ++ line_end ∷ (decimal cycle ++ line_end ∷ rest)) ≡ Some (cycle, rest)
 unfolding cycle_section
 cycle_read cycle rest s = rw (line_read 1 (decimal cycle ++ line_end ∷ rest) (lit< tt), line_read cycle rest s) refl
 
 -- ---- what was read is what is written
-
-pub line_wrote : (bytes : List ℕ) (x : ℕ) (rest : List ℕ) → number bytes ≡ ended x rest → (bytes ≡ decimal x ++ line_end ∷ rest) × EightDigits x
-line_wrote bytes x rest e = subst (λ (t : Taken). Wrote t bytes) e (number_wrote bytes)
-
-space_wrote : (bytes : List ℕ) (x : ℕ) (rest : List ℕ) → number bytes ≡ followed x rest → (bytes ≡ decimal x ++ space ∷ rest) × EightDigits x
-space_wrote bytes x rest e = subst (λ (t : Taken). Wrote t bytes) e (number_wrote bytes)
 
 pub record PairsWrote (bytes xs ys rest : List ℕ) : Type 0 where
   pub form : bytes ≡ pair_lines xs ys ++ rest
   pub lefts : AllEightDigits xs
   pub rights : AllEightDigits ys
 
-pub pairs_wrote : (n : ℕ) (bytes xs ys rest : List ℕ) → pairs n bytes ≡ lines xs ys rest → PairsWrote bytes xs ys rest
+pairs_wrote : (n : ℕ) (bytes : List ℕ) (l : Lines) → pairs n bytes ≡ Some l → PairsWrote bytes l.0 l.1 l.2
 unfolding pairs
-pairs_wrote zero bytes xs ys rest e =
-    let p : [] ≡ xs = cc in
-    let q : [] ≡ ys = cc in
-    let r : bytes ≡ rest = cc in
-    rw (← p, ← q, r) (record { form = unfold pair_lines in refl; lefts = tt; rights = tt })
-pairs_wrote (suc n) bytes xs ys rest e =
-    let f : FirstLine n bytes xs ys rest = past-pair n bytes xs ys rest e in
+pairs_wrote zero bytes l e = let none : ([], [], bytes) ≡ l = cc in rw (← none) (record { form = unfold pair_lines in refl; lefts = tt; rights = tt })
+pairs_wrote (suc n) bytes l e =
+    let f : FirstLine n bytes l = past_pairs n bytes l e in
     let b = f.below in
-    let u = space_wrote bytes f.x f.middle f.first in
-    let v = line_wrote f.middle f.y f.after f.second in
-    let w : PairsWrote f.after b.lefts b.rights rest = pairs_wrote n f.after b.lefts b.rights rest b.is in
-    subst₂ (λ (ls rs : List ℕ). PairsWrote bytes ls rs rest) (sym b.left) (sym b.right)
+    let u : Wrote bytes space f.x f.line.middle = number_wrote space f.x f.line.middle bytes f.line.first in
+    let v : Wrote f.line.middle line_end f.y f.after = number_wrote line_end f.y f.after f.line.middle f.line.second in
+    let w : PairsWrote f.after b.0 b.1 b.2 = pairs_wrote n f.after b f.rest in
+    subst (λ (m : Lines). PairsWrote bytes m.0 m.1 m.2) f.is
     (record {
       form =
-          u.0
-          ∙ ap (λ (l : List ℕ). decimal f.x ++ space ∷ l) (v.0 ∙ ap (λ (l : List ℕ). decimal f.y ++ line_end ∷ l) w.form)
-          ∙ sym (pair-first f.x f.y b.lefts b.rights rest);
-      lefts = (u.1, w.lefts);
-      rights = (v.1, w.rights);
+          u.form
+          ∙ ap (λ (l : List ℕ). decimal f.x ++ space ∷ l) (v.form ∙ ap (λ (l : List ℕ). decimal f.y ++ line_end ∷ l) w.form)
+          ∙ sym (pair-first f.x f.y b.0 b.1 b.2);
+      lefts = (u.short, w.lefts);
+      rights = (v.short, w.rights);
     })
 
-pub record SectionWrote (least most : ℕ) (bytes xs ys rest : List ℕ) : Type 0 where
-  pub counted : Counted least most xs ys
-  pub form : bytes ≡ decimal (length xs) ++ line_end ∷ (pair_lines xs ys ++ rest)
-  pub lefts : AllEightDigits xs
-  pub rights : AllEightDigits ys
+pub record SectionWrote (least most : ℕ) (bytes : List ℕ) (l : Lines) : Type 0 where
+  pub counted : Counted least most l.0 l.1
+  pub form : bytes ≡ decimal (length l.0) ++ line_end ∷ (pair_lines l.0 l.1 ++ l.2)
+  pub lefts : AllEightDigits l.0
+  pub rights : AllEightDigits l.1
 
-pub section_wrote : (least most : ℕ) (bytes xs ys rest : List ℕ) → section least most bytes ≡ lines xs ys rest →
-    SectionWrote least most bytes xs ys rest
-section_wrote least most bytes xs ys rest e =
-    let g : Judged least most bytes xs ys rest = past-section least most bytes xs ys rest e in
-    let w : PairsWrote g.after xs ys rest = pairs_wrote g.count g.after xs ys rest g.below in
+pub section_wrote : (least most : ℕ) (bytes : List ℕ) (l : Lines) → section least most bytes ≡ Ok l → SectionWrote least most bytes l
+section_wrote least most bytes l e =
+    let g : SectionOf least most bytes l = past-section least most bytes l e in
+    let w : PairsWrote g.after l.0 l.1 l.2 = pairs_wrote g.count g.after l g.below in
     record {
-      counted = section-counted least most bytes xs ys rest e;
+      counted = section-counted least most bytes l e;
       form =
-          (line_wrote bytes g.count g.after g.line).0
-          ∙ ap (λ (k : ℕ). decimal k ++ line_end ∷ g.after) (sym (pairs_length g.count g.after xs ys rest g.below).0)
-          ∙ ap (λ (z : List ℕ). decimal (length xs) ++ line_end ∷ z) w.form;
+          (number_wrote line_end g.count g.after bytes g.judged.line).form
+          ∙ ap (λ (k : ℕ). decimal k ++ line_end ∷ g.after) (sym (pairs_length g.count g.after l g.below).0)
+          ∙ ap (λ (z : List ℕ). decimal (length l.0) ++ line_end ∷ z) w.form;
       lefts = w.lefts;
       rights = w.rights;
     }
 
-not_ended : (cycle : ℕ) (rest : List ℕ) → unreadable ≡ ended cycle rest → ⊥
-not_ended cycle rest e = let z : ◌≡◌ {A = ℕ} 0 1 = cc in omega arith
-
-pub cycle_wrote : (bytes : List ℕ) (cycle : ℕ) (rest : List ℕ) → cycle_section bytes ≡ ended cycle rest →
+pub cycle_wrote : (bytes : List ℕ) (cycle : ℕ) (rest : List ℕ) → cycle_section bytes ≡ Some (cycle, rest) →
     (bytes ≡ decimal 1 ++ line_end ∷ (decimal cycle ++ line_end ∷ rest)) × EightDigits cycle
 unfolding cycle_section
 cycle_wrote bytes cycle rest e =
-    let l = past-line unreadable (λ count r. cond (eqb count 1) (number r) unreadable) (ended cycle rest) (not_ended cycle rest) (number bytes) e in
-    let t = past_test (number l.1) unreadable (ended cycle rest) (not_ended cycle rest) (eqb l.0 1) l.3 in
-    let w = line_wrote l.1 cycle rest t.1 in (
-      (line_wrote bytes l.0 l.1 l.2).0
-          ∙ ap (λ (k : ℕ). decimal k ++ line_end ∷ l.1) (eqb-true l.0 1 t.0)
-          ∙ ap (λ (z : List ℕ). decimal 1 ++ line_end ∷ z) w.0,
-      w.1,
+    let p = past_some (λ (t : ℕ × List ℕ). cond (eqb t.0 1) (number line_end t.1) None) (number line_end bytes) (cycle, rest) e in
+    let t = past_test (number line_end p.0.1) None (Some (cycle, rest)) (λ q. cc) (eqb p.0.0 1) p.2 in
+    let v : Wrote bytes line_end p.0.0 p.0.1 = number_wrote line_end p.0.0 p.0.1 bytes p.1 in
+    let w : Wrote p.0.1 line_end cycle rest = number_wrote line_end cycle rest p.0.1 t.1 in (
+      v.form
+          ∙ ap (λ (k : ℕ). decimal k ++ line_end ∷ p.0.1) (eqb-true p.0.0 1 t.0)
+          ∙ ap (λ (z : List ℕ). decimal 1 ++ line_end ∷ z) w.form,
+      w.short,
     )

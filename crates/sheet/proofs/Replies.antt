@@ -2,95 +2,85 @@
 -- the end of the bytes; a fault of one is the answer, and else the definition goes on with the columns that the arrays hold. Assumes nothing.
 use Prim.Native.Nat.{ℕ, ◌-◌, ◌≤◌, ◌<◌}
 use mathlib.Core.Path.{◌≡◌, refl, sym, ap, ◌∙◌}
-use mathlib.Core.List.{List}
-use lib.ListN.{length, drop, drop_of_length-le}
-use lib.Seq.{drop-cons}
+use mathlib.Core.List.{List, [], ◌∷◌}
+use native.Mathlib.Omega.{arith}
+use lib.ListN.{length}
 use borrow.Author.Tests.{le-leb, lt-leb}
+use Rattle.std.specs.Prelude.{Some, None, Ok, Err}
 use Rattle.road.specs.Limits.{min_signals, max_signals}
-use Rattle.street.specs.Lists.{Lists}
+use Rattle.street.specs.Lists.{Lists, typed}
 use Rattle.street.specs.declared.Code.{Code}
 use Rattle.street.specs.declared.Code.TheVariants as code
-use Rattle.street.specs.declared.Verdict.TheVariants.{Passed}
-use Rattle.sheet.specs.declared.Number.{Number}
-use Rattle.sheet.specs.declared.Outcome.TheVariants.{Whole}
 use Rattle.sheet.specs.Form.{max_bytes}
-use Rattle.sheet.specs.Steps.Numbers.{ended}
-use Rattle.sheet.specs.Steps.Sections.{fault, section, cycle_section}
-use Rattle.sheet.specs.Steps.Parsed.{refused, parsed, after_cycle, after_signals, at_end, to_reading}
-use Rattle.sheet.specs.Steps.Cursors.{taken_at, outcome_reading}
-use Rattle.sheet.proofs.Otherwise.{IsNotEnded, no_line_end}
-use Rattle.sheet.proofs.Sections.{Took}
+use Rattle.sheet.specs.Reading.{sheet_of}
+use Rattle.sheet.specs.Steps.Sections.{section, cycle_section, result_map, InArrays}
+use Rattle.sheet.specs.Steps.Parsed.{parsed, after_cycle, after_signals, at_end}
 
-pub too_long : (s : List ℕ) → max_bytes < length s → parsed s ≡ refused code.Sheet
+pub too_long : (bytes : List ℕ) → max_bytes < length bytes → parsed bytes ≡ Err code.Sheet
 unfolding parsed
-too_long s h = rw (lt-leb (length s) max_bytes h) refl
+too_long bytes h = rw (lt-leb (length bytes) max_bytes h) refl
 
-pub no_cycle : (s : List ℕ) → length s ≤ max_bytes → (n : Number) → taken_at s n ≡ cycle_section s →
-    IsNotEnded n → parsed s ≡ refused code.Sheet
-unfolding parsed
-no_cycle s short n e o = rw (le-leb (length s) max_bytes short, ← e) (no_line_end s _ _ n o)
-
--- the reader after the first section
-pub record CycleAt (s : List ℕ) (cycle at : ℕ) : Type 0 where
-  pub short : length s ≤ max_bytes
-  pub first : cycle_section s ≡ ended cycle (drop at s)
-
-module _ {s : List ℕ} {cycle at : ℕ} (v : CycleAt s cycle at) where
-  from_cycle : parsed s ≡ after_cycle cycle (drop at s)
+module _ (bytes : List ℕ) (short : length bytes ≤ max_bytes) where
+  pub no_cycle : cycle_section bytes ≡ None → parsed bytes ≡ Err code.Sheet
   unfolding parsed
-  from_cycle = rw (le-leb (length s) max_bytes v.short, v.first) refl
+  no_cycle e = rw (le-leb (length bytes) max_bytes short, e) refl
 
-  -- a fault among the signals is the answer
-  pub signals_fault : {c : Code} → section min_signals max_signals (drop at s) ≡ fault c → parsed s ≡ refused c
-  unfolding after_cycle
-  signals_fault q = from_cycle ∙ rw q refl
+  -- after the first section
+  module _ {cycle : ℕ} {rest : List ℕ} (first : cycle_section bytes ≡ Some (cycle, rest)) where
+    from_cycle : parsed bytes ≡ after_cycle cycle rest
+    unfolding parsed
+    from_cycle = rw (le-leb (length bytes) max_bytes short, first) refl
 
-  -- after the signals' section, whose columns are in two arrays
-  module _ {n next : ℕ} {distances reds : List ℕ} (rows : Took s distances reds (section min_signals max_signals (drop at s)) n next) where
-    from-signals : parsed s ≡ after_signals cycle rows.lefts rows.rights (drop next s)
+    -- a fault among the signals is the answer
+    pub signals_fault : {c : Code} → section min_signals max_signals rest ≡ Err c → parsed bytes ≡ Err c
     unfolding after_cycle
-    from-signals = from_cycle ∙ rw rows.is refl
+    signals_fault q = from_cycle ∙ rw q refl
 
-    same_section : section (length rows.rights - 1) (length rows.rights - 1) (drop next s) ≡ section (n - 1) (n - 1) (drop next s)
-    same_section = ap (λ (k : ℕ). section (k - 1) (k - 1) (drop next s)) rows.count
+    -- after the signals' section, whose columns are in two arrays
+    module _ {n : ℕ} {distances reds next : List ℕ} (rows : InArrays (section min_signals max_signals rest) min_signals max_signals n distances reds next) where
+      from-signals : parsed bytes ≡ after_signals cycle rows.lefts rows.rights next
+      unfolding after_cycle
+      from-signals = from_cycle ∙ rw rows.is refl
 
-    -- a fault among the links, one fewer than the signals, is the answer
-    pub links_fault : {c : Code} → section (n - 1) (n - 1) (drop next s) ≡ fault c → parsed s ≡ refused c
-    unfolding after_signals
-    links_fault q = from-signals ∙ rw (same_section ∙ q) refl
+      same_section : section (length rows.rights - 1) (length rows.rights - 1) next ≡ section (n - 1) (n - 1) next
+      same_section = ap (λ (k : ℕ). section (k - 1) (k - 1) next) rows.counted
 
-    -- after the links' section, whose columns are in two arrays too
-    module _ {k last : ℕ} {outbound inbound : List ℕ} (speeds : Took s outbound inbound (section (n - 1) (n - 1) (drop next s)) k last) where
-      abbrev numbers : Lists
-      numbers =
-          record {
-            cycle = cycle;
-            reds = rows.rights;
-            distances = rows.lefts;
-            outbound = speeds.lefts;
-            inbound = speeds.rights;
-          }
-
-      from_links_lem : parsed s ≡ at_end numbers (drop last s)
+      -- a fault among the links, one fewer than the signals, is the answer
+      pub links_fault : {c : Code} → section (n - 1) (n - 1) next ≡ Err c → parsed bytes ≡ Err c
       unfolding after_signals
-      from_links_lem = from-signals ∙ rw (same_section ∙ speeds.is) refl
+      links_fault q = from-signals ∙ rw (same_section ∙ q) refl
 
-      -- bytes after the last line break the form
-      pub bytes_left : last < length s → parsed s ≡ refused code.Sheet
-      bytes_left h = from_links_lem ∙ rw (drop-cons s last 0) refl
+      -- after the links' section, whose columns are in two arrays too
+      module _ {k : ℕ} {outbound inbound last : List ℕ} (speeds : InArrays (section (n - 1) (n - 1) next) (n - 1) (n - 1) k outbound inbound last) where
+        abbrev numbers : Lists
+        numbers = typed cycle rows.rights rows.lefts speeds.lefts speeds.rights
 
-      -- with none left, the numbers of the sheet are those in the arrays
-      pub nothing_left : length s ≤ last → outcome_reading (Whole n cycle) reds distances outbound inbound ≡ to_reading (parsed s)
-      nothing_left h =
-          (λ i. record {
-            verdict = Passed;
-            sheet = record {
-              signals = sym rows.count i;
+        from_links_lem : parsed bytes ≡ at_end numbers last
+        unfolding after_signals
+        from_links_lem = from-signals ∙ rw (same_section ∙ speeds.is) refl
+
+        -- bytes after the last line break the form
+        pub bytes_left : 0 < length last → parsed bytes ≡ Err code.Sheet
+        bytes_left h = from_links_lem ∙ go last h
+          where
+            go : (end : List ℕ) → 0 < length end → at_end numbers end ≡ Err code.Sheet
+            go [] h = absurd (omega arith)
+            go (b ∷ end) h = refl
+
+        -- with none left, the numbers of the sheet are those in the arrays
+        pub nothing_left : length last ≡ 0 → Ok (record { signals = n; cycle = cycle; reds = reds; distances = distances; outbound = outbound; inbound = inbound }) ≡ result_map sheet_of (parsed bytes)
+        nothing_left h =
+            ap Ok
+            (λ i. record {
+              signals = sym rows.counted i;
               cycle = cycle;
               reds = rows.in_right i;
               distances = rows.in_left i;
               outbound = speeds.in_left i;
               inbound = speeds.in_right i;
-            };
-          })
-          ∙ sym (ap to_reading (from_links_lem ∙ ap (at_end numbers) (drop_of_length-le s h)))
+            })
+            ∙ sym (ap (result_map sheet_of) (from_links_lem ∙ go last h))
+          where
+            go : (end : List ℕ) → length end ≡ 0 → at_end numbers end ≡ Ok numbers
+            go [] h = refl
+            go (b ∷ end) h = absurd (omega arith)

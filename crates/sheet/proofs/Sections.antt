@@ -1,69 +1,68 @@
--- A section, computed at what its count's line showed, and what the code's columns tell of the section that they were read from: how many lines, the columns
--- that the arrays hold, and where the next section starts. Assumes nothing.
-use Prim.Native.Nat.{ℕ, zero, suc, ◌≤◌, ◌<◌}
+-- What a section that was read tells: how many lines, that the count is within its bounds, and what its columns are where two arrays hold them. Assumes nothing.
+use Prim.Native.Nat.{ℕ, zero, suc, ◌≤◌}
 use mathlib.Core.Bool.{cond}
 use mathlib.Core.Path.{◌≡◌, refl, sym, ap, ◌∙◌}
 use mathlib.Core.List.{List, []}
 use native.Mathlib.Omega.{arith}
 use lib.Dec.{leb}
-use lib.ListN.{length, drop}
-use borrow.Author.Tests.{le-leb, lt-leb, leb-true, eq-eqb, ne_eqb}
+use lib.ListN.{length}
+use borrow.Author.Tests.{leb-true}
+use Rattle.std.specs.Prelude.{Option, Some, None, option_map, Result, Ok, Err, ok_or}
 use Rattle.circle.proofs.Numbers.{cond_left, cond_right}
 use Rattle.street.specs.Checks.{within}
+use Rattle.street.specs.declared.Code.{Code}
 use Rattle.street.specs.declared.Code.TheVariants.{Sheet, Count}
-use Rattle.sheet.specs.declared.Number.{Number}
-use Rattle.sheet.specs.declared.Stand.TheVariants.{At, Stopped}
-use Rattle.sheet.specs.Reading.{in_array}
-use Rattle.sheet.specs.Steps.Numbers.{unreadable, ended, number}
-use Rattle.sheet.specs.Steps.Sections.{Lines, lines, fault, pairs, section, cycle_section}
-use Rattle.sheet.specs.Steps.Cursors.{taken_at, in_arrays, columns}
-use Rattle.sheet.proofs.Otherwise.{IsNotEnded, no_line_end}
-use Rattle.sheet.proofs.Backwards.{past-line, past_test, past-pair, not_lines, FirstLine}
-
-module _ (s : List ℕ) (at : ℕ) where
-  module _ (n : Number) (e : taken_at s n ≡ number (drop at s)) (o : IsNotEnded n) where
-    pub cycle_no_count : cycle_section (drop at s) ≡ unreadable
-    unfolding cycle_section
-    cycle_no_count = rw (← e) (no_line_end s _ _ n o)
-
-    pub section_no_count : (least most : ℕ) → section least most (drop at s) ≡ fault Sheet
-    unfolding section
-    section_no_count least most = rw (← e) (no_line_end s _ _ n o)
-
-  module _ (count next : ℕ) (e : number (drop at s) ≡ ended count (drop next s)) where
-    pub cycle_other_count : (count ≡ 1 → ⊥) → cycle_section (drop at s) ≡ unreadable
-    unfolding cycle_section
-    cycle_other_count h = rw (e, ne_eqb count 1 h) refl
-
-    pub cycle_number : count ≡ 1 → cycle_section (drop at s) ≡ number (drop next s)
-    unfolding cycle_section
-    cycle_number h = rw (e, eq-eqb count 1 h) refl
-
-    module _ (least most : ℕ) where
-      pub section_few : count < least → section least most (drop at s) ≡ fault Count
-      unfolding section
-      section_few h = rw (e, lt-leb least count h) refl
-
-      pub section_many : least ≤ count → most < count → section least most (drop at s) ≡ fault Count
-      unfolding section
-      section_many g h = rw (e, le-leb least count g, lt-leb count most h) refl
-
-      pub section_lines : least ≤ count → count ≤ most → section least most (drop at s) ≡ pairs count (drop next s)
-      unfolding section
-      section_lines g h = rw (e, le-leb least count g, le-leb count most h) refl
+use Rattle.decimal.specs.Lines.{line_end}
+use Rattle.sheet.specs.Steps.Numbers.{number}
+use Rattle.sheet.specs.Steps.Sections.{Lines, in_arrays, pairs, judged_count, section, InArrays}
+use Rattle.sheet.proofs.Backwards.{past_ok, past_or, past_sheet, past_test, past_map, past_pairs, not_read, FirstLine}
 
 -- as many entries in each column as there are lines
-pub pairs_length : (n : ℕ) (bytes xs ys rest : List ℕ) → pairs n bytes ≡ lines xs ys rest → (length xs ≡ n) × (length ys ≡ n)
+pub pairs_length : (n : ℕ) (bytes : List ℕ) (l : Lines) → pairs n bytes ≡ Some l → (length l.0 ≡ n) × (length l.1 ≡ n)
 unfolding pairs
-pairs_length zero bytes xs ys rest e =
-    let p : [] ≡ xs = cc in
-    let q : [] ≡ ys = cc in
-    (rw (← p) refl, rw (← q) refl)
-pairs_length (suc n) bytes xs ys rest e =
-    let f : FirstLine n bytes xs ys rest = past-pair n bytes xs ys rest e in
-    let b = f.below in
-    let i = pairs_length n f.after b.lefts b.rights rest b.is in
-    (rw b.left (ap suc i.0), rw b.right (ap suc i.1))
+pairs_length zero bytes l e = let none : ([], [], bytes) ≡ l = cc in (rw (← none) refl, rw (← none) refl)
+pairs_length (suc n) bytes l e =
+    let f : FirstLine n bytes l = past_pairs n bytes l e in
+    let i = pairs_length n f.after f.below f.rest in
+    (rw (← f.is) (ap suc i.0), rw (← f.is) (ap suc i.1))
+
+-- a count that was read, and judged
+pub record Judged (least most : ℕ) (bytes : List ℕ) (n : ℕ) (rest : List ℕ) : Type 0 where
+  pub line : number line_end bytes ≡ Some (n, rest)
+  pub low : least ≤ n
+  pub high : n ≤ most
+
+pub past-counted : (least most : ℕ) (bytes : List ℕ) (n : ℕ) (rest : List ℕ) → judged_count least most bytes ≡ Ok (n, rest) → Judged least most bytes n rest
+unfolding judged_count
+past-counted least most bytes n rest e =
+    let judge : ℕ × List ℕ → Result (ℕ × List ℕ) Code = λ t. cond (within least most t.0) (Ok t) (Err Count) in
+    let p = past_sheet judge (number line_end bytes) (Ok (n, rest)) (not_read Sheet (n, rest)) e in
+    let t = past_test (Ok p.0) (Err Count) (Ok (n, rest)) (not_read Count (n, rest)) (within least most p.0.0) p.2 in
+    let same : p.0 ≡ (n, rest) = cc (t.1) in
+    let is : p.0.0 ≡ n = ap (λ u. u.0) same in
+    record {
+      line = p.1 ∙ ap Some same;
+      low = rw (← is) (leb-true least p.0.0 (cond_left (leb least p.0.0) (leb p.0.0 most) t.0));
+      high = rw (← is) (leb-true p.0.0 most (cond_right (leb least p.0.0) (leb p.0.0 most) t.0));
+    }
+
+-- a section that was read: its count, and its lines
+pub record SectionOf (least most : ℕ) (bytes : List ℕ) (l : Lines) : Type 0 where
+  pub count : ℕ
+  pub after : List ℕ
+  pub judged : Judged least most bytes count after
+  pub below : pairs count after ≡ Some l
+
+pub past-section : (least most : ℕ) (bytes : List ℕ) (l : Lines) → section least most bytes ≡ Ok l → SectionOf least most bytes l
+unfolding section
+past-section least most bytes l e =
+    let p = past_ok (λ (t : ℕ × List ℕ). ok_or (pairs t.0 t.1) Sheet) (judged_count least most bytes) l e in
+    record {
+      count = p.0.0;
+      after = p.0.1;
+      judged = past-counted least most bytes p.0.0 p.0.1 p.1;
+      below = past_or (pairs p.0.0 p.0.1) Sheet l p.2;
+    }
 
 -- the lines of a section that was read
 pub record Counted (least most : ℕ) (xs ys : List ℕ) : Type 0 where
@@ -71,66 +70,37 @@ pub record Counted (least most : ℕ) (xs ys : List ℕ) : Type 0 where
   pub high : length xs ≤ most
   pub even : length ys ≡ length xs
 
--- a section whose lines were read: its count, which passed the test, and its lines
-pub record Judged (least most : ℕ) (bytes xs ys rest : List ℕ) : Type 0 where
-  pub count : ℕ
-  pub after : List ℕ
-  pub line : number bytes ≡ ended count after
-  pub low : least ≤ count
-  pub high : count ≤ most
-  pub below : pairs count after ≡ lines xs ys rest
+pub section-counted : (least most : ℕ) (bytes : List ℕ) (l : Lines) → section least most bytes ≡ Ok l → Counted least most l.0 l.1
+section-counted least most bytes l e =
+    let g : SectionOf least most bytes l = past-section least most bytes l e in
+    let n = pairs_length g.count g.after l g.below in
+    record { low = omega (arith, n.0, g.judged.low); high = omega (arith, n.0, g.judged.high); even = n.1 ∙ sym n.0 }
 
-pub past-section : (least most : ℕ) (bytes xs ys rest : List ℕ) → section least most bytes ≡ lines xs ys rest → Judged least most bytes xs ys rest
-unfolding section
-past-section least most bytes xs ys rest e =
-    let judge : ℕ → List ℕ → Lines = λ n r. cond (within least most n) (pairs n r) (fault Count) in
-    let l = past-line (fault Sheet) judge (lines xs ys rest) (not_lines Sheet xs ys rest) (number bytes) e in
-    let t = past_test (pairs l.0 l.1) (fault Count) (lines xs ys rest) (not_lines Count xs ys rest) (within least most l.0) l.3 in
-    record {
-      count = l.0;
-      after = l.1;
-      line = l.2;
-      low = leb-true least l.0 (cond_left (leb least l.0) (leb l.0 most) t.0);
-      high = leb-true l.0 most (cond_right (leb least l.0) (leb l.0 most) t.0);
-      below = t.1;
-    }
+-- ---- in the code's arrays
 
-pub section-counted : (least most : ℕ) (bytes xs ys rest : List ℕ) → section least most bytes ≡ lines xs ys rest → Counted least most xs ys
-section-counted least most bytes xs ys rest e =
-    let g : Judged least most bytes xs ys rest = past-section least most bytes xs ys rest e in
-    let n = pairs_length g.count g.after xs ys rest g.below in
-    record { low = omega (arith, n.0, g.low); high = omega (arith, n.0, g.high); even = n.1 ∙ sym n.0 }
+module _ (least most : ℕ) (bytes : List ℕ) where
+  pub no_count : (c : Code) → judged_count least most bytes ≡ Err c → section least most bytes ≡ Err c
+  unfolding section
+  no_count c e = rw e refl
 
--- what two arrays and the cursor past their lines tell of a section of n lines
-pub record Took (s left right : List ℕ) (l : Lines) (n at : ℕ) : Type 0 where
-  pub lefts : List ℕ
-  pub rights : List ℕ
-  pub is : l ≡ lines lefts rights (drop at s)
-  pub count : length rights ≡ n
-  pub in_left : left ≡ in_array lefts
-  pub in_right : right ≡ in_array rights
+  module _ (n : ℕ) (rest : List ℕ) (e : judged_count least most bytes ≡ Ok (n, rest)) where
+    pub no_lines : pairs n rest ≡ None → section least most bytes ≡ Err Sheet
+    unfolding section
+    no_lines q = rw (e, q) refl
 
--- the code's arrays, filled from the lines that a section's count opens
-module _ (s left right : List ℕ) {l : Lines} (n : ℕ) (bytes : List ℕ) (opens : l ≡ pairs n bytes) where
-  pub took : (at : ℕ) → columns s (At at) left right ≡ in_arrays (pairs n bytes) → Took s left right l n at
-  took at e = by_lines (pairs n bytes) refl e
-    where
-      by_lines : (m : Lines) → pairs n bytes ≡ m → columns s (At at) left right ≡ in_arrays m → Took s left right l n at
-      by_lines (lines xs ys rest) q e =
-          let r : rest ≡ drop at s = cc in
-          record {
-            lefts = xs;
-            rights = ys;
-            is = opens ∙ q ∙ ap (lines xs ys) r;
-            count = (pairs_length n bytes xs ys rest q).1;
-            in_left = cc;
-            in_right = cc;
-          }
-      by_lines (fault code) q e = absurd (not_lines code left right (drop at s) (sym e))
-
-  pub took_none : columns s Stopped left right ≡ in_arrays (pairs n bytes) → l ≡ fault Sheet
-  took_none e = opens ∙ by_lines (pairs n bytes) e
-    where
-      by_lines : (m : Lines) → columns s Stopped left right ≡ in_arrays m → m ≡ fault Sheet
-      by_lines (lines xs ys rest) e = absurd (not_lines Sheet (in_array xs) (in_array ys) rest e)
-      by_lines (fault code) e = sym e
+    pub in_arrays_lem : (left right after : List ℕ) → option_map in_arrays (pairs n rest) ≡ Some (left, right, after) → InArrays (section least most bytes) least most n left right after
+    unfolding section
+    in_arrays_lem left right after q =
+        let p = past_map in_arrays (pairs n rest) (left, right, after) q in
+        let j : Judged least most bytes n rest = past-counted least most bytes n rest e in
+        let behind : p.0.2 ≡ after = ap (λ t. t.2) p.2 in
+        record {
+          lefts = p.0.0;
+          rights = p.0.1;
+          is = rw e (ap (λ (o : Option Lines). ok_or o Sheet) p.1 ∙ ap (λ (r : List ℕ). Ok (p.0.0, p.0.1, r)) behind);
+          low = j.low;
+          high = j.high;
+          counted = (pairs_length n rest p.0 p.1).1;
+          in_left = sym (ap (λ t. t.0) p.2);
+          in_right = sym (ap (λ t. t.1) p.2);
+        }

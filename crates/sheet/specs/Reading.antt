@@ -1,12 +1,10 @@
 -- What the reader answers: the numbers of a street, or a refusal (01, 'The street sheet' and 'Codes, in order of checking').
-use Rattle.std.specs.Prelude.{ℕ, ◌-◌, ◌≡◌, List, [], ◌++◌, length, take, drop, replicate}
+use Rattle.std.specs.Prelude.{ℕ, ◌-◌, ◌≡◌, List, ◌++◌, length, take, drop, replicate, Result, Ok, Err}
 use Rattle.road.specs.Limits.{max_signals}
 use Rattle.street.specs.Lists.{Lists, signals, typed}
-use Rattle.street.specs.Checks.{refuse}
 use Rattle.street.specs.declared.Code.{Code}
-use Rattle.street.specs.declared.Verdict.TheVariants.{Passed}
+use Rattle.street.specs.declared.Refusal.{Refusal}
 use Rattle.sheet.specs.declared.Sheet.{Sheet}
-use Rattle.sheet.specs.declared.Reading.{Reading}
 use Rattle.sheet.specs.Form.{ByForm}
 
 -- a column as an array holds it: 0 from its end on
@@ -30,17 +28,17 @@ abbrev pub lists_of : Sheet → Lists
 lists_of s =
     typed s.cycle (take s.signals s.reds) (take s.signals s.distances) (take (s.signals - 1) s.outbound) (take (s.signals - 1) s.inbound)
 
--- a sheet of which every number is 0
-abbrev pub no_sheet : Sheet
-no_sheet = sheet_of (typed 0 [] [] [] [])
+-- a reading: a street's numbers, or a refusal, which has none
+abbrev pub Reading : Type 0
+Reading = Result Sheet Refusal
 
 -- a street that was read has its numbers
 abbrev pub passing : Lists → Reading
-passing l = record { verdict = Passed; sheet = sheet_of l }
+passing l = Ok (sheet_of l)
 
--- a refusal by the reader has place 0, and its numbers are all 0
+-- a refusal by the reader has place 0
 abbrev pub refusing : Code → Reading
-refusing c = record { verdict = refuse c 0; sheet = no_sheet }
+refusing c = Err (record { code = c; place = 0 })
 
 -- the contract of what reads: the numbers of the street whose text the bytes are, or else the refusal that they earn
 abbrev pub Reads : List ℕ → Reading → Type 0

@@ -2,19 +2,18 @@
 // A number is read up to the byte that ends it, a section is its count and its lines, and the first fault decides.
 #![tactic(auto)]
 
-ghost use Rattle.std.specs.Prelude.{◌≡◌, ◌≤◌, drop};
+ghost use Rattle.std.specs.Prelude.{◌≡◌, ◌≤◌, ◌⊎◌, IfSome, MatchOption, MatchResult, option_map};
 ghost use Rattle.road.specs.Limits.{max_signals};
 ghost use Rattle.road.specs.Steps.{Zeros};
 ghost use Rattle.sheet.specs.Form.{max_bytes};
-ghost use Rattle.sheet.specs.Reading.{Reads};
-ghost use Rattle.sheet.specs.Steps.Filled.{assembled};
-ghost use Rattle.sheet.specs.Steps.Kinds.{kind_of};
-ghost use Rattle.sheet.specs.Steps.Numbers.{number, more};
-ghost use Rattle.sheet.specs.Steps.Sections.{pairs, section, cycle_section};
-ghost use Rattle.sheet.specs.Steps.Parsed.{reading_of};
-ghost use Rattle.sheet.specs.Steps.Cursors.{taken_at, opened_at, Allowed, columns, in_arrays, outcome_reading};
+ghost use Rattle.sheet.specs.Reading.{sheet_of, lists_of, Reads};
+ghost use Rattle.sheet.specs.Steps.Held.{Held};
+ghost use Rattle.sheet.specs.Steps.Numbers.{digit_of, number, more};
+ghost use Rattle.sheet.specs.Steps.Sections.{pair, pairs, in_arrays, result_map, judged_count, section, cycle_section, InArrays};
+ghost use Rattle.sheet.specs.Steps.Parsed.{parsed};
 
-use street::{Code, Refusal, Street, Verdict};
+use decimal::{LINE_END, SPACE};
+use street::{Code, Lists, Refusal, Street};
 
 // The numbers of a sheet, not yet judged: `signals` signals and one link fewer. Entries from those counts on are 0.
 #[derive(Clone, Copy)]
@@ -27,24 +26,24 @@ pub struct Sheet {
     pub inbound: [u32; Street::MAX_SIGNALS],
 }
 
-// A reading: the verdict, and beside it the numbers, which are all 0 where the verdict is a refusal.
-#[derive(Clone, Copy)]
-pub struct Reading {
-    pub verdict: Verdict,
-    pub sheet: Sheet,
-}
-
-// A reading whose columns stand in lent arrays.
-#[derive(Clone, Copy)]
-pub struct Head {
-    pub verdict: Verdict,
-    pub signals: usize,
-    pub cycle: u32,
-}
-
 impl Sheet {
     // A longer sheet is refused before anything of it is read.
     pub const MAX_BYTES: usize = 2_048;
+
+    // The lists that the arrays hold, as a caller hands them on.
+    pub fn lists(&self) -> Lists<'_>
+        requires { Held self.now }
+        ensures { result ≡ lists_of self.now }
+    {
+        let links = self.signals - 1;
+        Lists {
+            cycle: self.cycle,
+            reds: &self.reds[..self.signals],
+            distances: &self.distances[..self.signals],
+            outbound: &self.outbound[..links],
+            inbound: &self.inbound[..links],
+        }
+    }
 }
 
 // The limit of the code is that of the definition. The body is empty: the contract is all there is to this.
@@ -52,251 +51,174 @@ fn limits()
     ensures { Sheet.MAX_BYTES ≡ max_bytes }
 {}
 
-// What a byte is to the reader.
-#[derive(Clone, Copy)]
-enum Byte {
-    Digit(u32),
-    Space,
-    LineEnd,
-    Other,
-}
-
-// A number with the byte that ended it: its value, and the cursor past that byte.
-#[derive(Clone, Copy)]
-enum Number {
-    Spaced(u32, usize),
-    Ended(u32, usize),
-    Unreadable,
-}
-
-// A section's count: how many lines, and the cursor past its own line; or the fault that stopped reading.
-#[derive(Clone, Copy)]
-enum Count {
-    Of(usize, usize),
-    Wrong(Code),
-}
-
-// Where reading stands after some lines: past the last of them, or at one that cannot be read.
-#[derive(Clone, Copy)]
-enum Stand {
-    At(usize),
-    Stopped,
-}
-
-// What the sections come to beside their columns: how many signals, and the cycle; or the fault that stopped reading.
-#[derive(Clone, Copy)]
-enum Outcome {
-    Whole(usize, u32),
-    Fault(Code),
-}
-
-// Every decision on a byte is taken here.
-fn kind(byte: u8) -> Byte
-    ensures { result ≡ kind_of byte }
+// The value of a byte that is a digit.
+#[tactic(auto, unfolding(crate::specs::Steps::Numbers::digit_of))]
+fn digit(byte: u8) -> Option<u32>
+    ensures value { result ≡ digit_of byte }
+    ensures small { IfSome result (λ d. d ≤ 9) }
 {
     match byte {
-        48..=57 => Byte::Digit((byte - 48) as u32),
-        32 => Byte::Space,
-        10 => Byte::LineEnd,
-        _ => Byte::Other,
+        48..=57 => Some((byte - 48) as u32),
+        _ => None,
     }
 }
 
-// The rest of a number after its first digit. A digit after a value of 0 would make that a leading zero, and one after more
-// than 9,999,999 would be the ninth.
-fn digits(bytes: &[u8], from: usize, first: u32) -> Number
-    ensures { taken_at bytes.now result ≡ more first (drop from bytes.now) }
+// The rest of a number of which some digits are read, up to the byte that has to end it: its value and the bytes behind that byte. A
+// digit after a value of 0 would make that a leading zero, and one after more than 9,999,999 would be the ninth.
+#[tactic(auto, unfolding(crate::specs::Steps::Numbers::more))]
+fn digits(bytes: &[u8], value: u32, end: u8) -> Option<(u32, &[u8])>
+    requires { (end ≡ 32) ⊎ (end ≡ 10) }
+    ensures { option_map (λ t. (t.0, t.1.now)) result ≡ more end value bytes.now }
 {
-    let mut at = from;
-    let mut value = first;
-    while at < bytes.len() {
-        match kind(bytes[at]) {
-            Byte::Digit(digit) => {
-                if value == 0 {
-                    return Number::Unreadable;
-                }
-                if value > 9_999_999 {
-                    return Number::Unreadable;
-                }
-                value = 10 * value + digit;
-                at += 1;
-            }
-            Byte::Space => return Number::Spaced(value, at + 1),
-            Byte::LineEnd => return Number::Ended(value, at + 1),
-            Byte::Other => return Number::Unreadable,
-        }
-    }
-    Number::Unreadable
-}
-
-// The number at a cursor.
-fn number_at(bytes: &[u8], at: usize) -> Number
-    ensures { taken_at bytes.now result ≡ number (drop at bytes.now) }
-{
-    if at >= bytes.len() {
-        return Number::Unreadable;
-    }
-    let first = kind(bytes[at]);
-    let Byte::Digit(digit) = first else {
-        return Number::Unreadable;
+    let Some((byte, rest)) = bytes.split_first() else {
+        return None;
     };
-    digits(bytes, at + 1, digit)
+    match *byte {
+        48..=57 => {
+            if value == 0 || value > 9_999_999 {
+                return None;
+            }
+            digits(rest, 10 * value + (*byte - 48) as u32, end)
+        }
+        32 if end == SPACE => Some((value, rest)),
+        10 if end == LINE_END => Some((value, rest)),
+        _ => None,
+    }
+}
+
+// The number at the start of some bytes, and those behind the byte that has to end it.
+#[tactic(auto, unfolding(crate::specs::Steps::Numbers::number))]
+fn number(bytes: &[u8], end: u8) -> Option<(u32, &[u8])>
+    requires { (end ≡ 32) ⊎ (end ≡ 10) }
+    ensures { option_map (λ t. (t.0, t.1.now)) result ≡ number end bytes.now }
+{
+    let Some((first, rest)) = bytes.split_first() else {
+        return None;
+    };
+    digits(rest, digit(*first)?, end)
 }
 
 // A section's count, judged as soon as its line is read.
-fn count_at(bytes: &[u8], at: usize, least: usize, most: usize) -> Count
-    ensures { (opened_at bytes.now result ≡ section least most (drop at bytes.now)) × Allowed least most result }
+#[tactic(auto, unfolding(crate::specs::Steps::Sections::judged_count))]
+fn count(bytes: &[u8], least: usize, most: usize) -> Result<(usize, &[u8]), Code>
+    ensures { result_map (λ t. (t.0, t.1.now)) result ≡ judged_count least most bytes.now }
 {
-    let Number::Ended(count, next) = number_at(bytes, at) else {
-        return Count::Wrong(Code::Sheet);
+    let Some((count, rest)) = number(bytes, LINE_END) else {
+        return Err(Code::Sheet);
     };
     let lines = count as usize;
-    if lines < least {
-        return Count::Wrong(Code::Count);
+    if lines < least || lines > most {
+        return Err(Code::Count);
     }
-    if lines > most {
-        return Count::Wrong(Code::Count);
-    }
-    Count::Of(lines, next)
+    Ok((lines, rest))
 }
 
-// The two columns of `count` lines, whether of signals or of links, into two arrays that come in all 0.
-fn columns_at(
-    bytes: &[u8],
-    from: usize,
+// A line of two numbers with one space between them, and the bytes behind it.
+#[tactic(auto, unfolding(crate::specs::Steps::Sections::pair))]
+fn pair(bytes: &[u8]) -> Option<(u32, u32, &[u8])>
+    ensures { option_map (λ t. (t.0, t.1, t.2.now)) result ≡ pair bytes.now }
+{
+    let Some((x, rest)) = number(bytes, SPACE) else {
+        return None;
+    };
+    let Some((y, rest)) = number(rest, LINE_END) else {
+        return None;
+    };
+    Some((x, y, rest))
+}
+
+// The two columns of `count` lines, whether of signals or of links, into two arrays that come in all 0; and the bytes behind the lines.
+fn columns<'a>(
+    bytes: &'a [u8],
     count: usize,
     left: &mut [u32; Street::MAX_SIGNALS],
     right: &mut [u32; Street::MAX_SIGNALS],
-) -> Stand
+) -> Option<&'a [u8]>
     requires { (count ≤ max_signals) × Zeros left.old × Zeros right.old }
-    ensures { columns bytes.now result left.new right.new ≡ in_arrays (pairs count (drop from bytes.now)) }
+    ensures { MatchOption result (pairs count bytes.now ≡ None)
+        (λ rest. option_map in_arrays (pairs count bytes.now) ≡ Some (left.new, right.new, rest.now)) }
 {
-    let mut at = from;
+    let mut rest = bytes;
     for i in 0..count {
-        let Number::Spaced(x, next) = number_at(bytes, at) else {
-            return Stand::Stopped;
-        };
-        let Number::Ended(y, end) = number_at(bytes, next) else {
-            return Stand::Stopped;
-        };
+        let (x, y, below) = pair(rest)?;
         left[i] = x;
         right[i] = y;
-        at = end;
+        rest = below;
     }
-    Stand::At(at)
+    Some(rest)
+}
+
+// A section: its count, judged as soon as its line is read, and then its two columns, into two arrays that come in all 0. Answered are the
+// count and the bytes behind the section.
+fn section<'a>(
+    bytes: &'a [u8],
+    least: usize,
+    most: usize,
+    left: &mut [u32; Street::MAX_SIGNALS],
+    right: &mut [u32; Street::MAX_SIGNALS],
+) -> Result<(usize, &'a [u8]), Code>
+    requires { (most ≤ max_signals) × Zeros left.old × Zeros right.old }
+    ensures { MatchResult result
+        (λ t. InArrays (section least most bytes.now) least most t.0 left.new right.new t.1.now)
+        (λ code. section least most bytes.now ≡ Err code) }
+{
+    let (count, rest) = count(bytes, least, most)?;
+    let rest = columns(rest, count, left, right).ok_or(Code::Sheet)?;
+    Ok((count, rest))
 }
 
 // The first section: its count, which is 1, and the cycle.
-fn cycle_at(bytes: &[u8], at: usize) -> Number
-    ensures { taken_at bytes.now result ≡ cycle_section (drop at bytes.now) }
+#[tactic(auto, unfolding(crate::specs::Steps::Sections::cycle_section))]
+fn cycle(bytes: &[u8]) -> Option<(u32, &[u8])>
+    ensures { option_map (λ t. (t.0, t.1.now)) result ≡ cycle_section bytes.now }
 {
-    let Number::Ended(count, next) = number_at(bytes, at) else {
-        return Number::Unreadable;
+    let Some((count, rest)) = number(bytes, LINE_END) else {
+        return None;
     };
     if count != 1 {
-        return Number::Unreadable;
+        return None;
     }
-    number_at(bytes, next)
+    number(rest, LINE_END)
 }
 
-// The sections, each column into an array that comes in all 0. A signal's line has its distance before its red, a link's its
-// outbound speed before its inbound one. What was read before a fault is left in the arrays.
-fn parse(
-    bytes: &[u8],
-    reds: &mut [u32; Street::MAX_SIGNALS],
-    distances: &mut [u32; Street::MAX_SIGNALS],
-    outbound: &mut [u32; Street::MAX_SIGNALS],
-    inbound: &mut [u32; Street::MAX_SIGNALS],
-) -> Outcome
-    requires { Zeros reds.old × Zeros distances.old × Zeros outbound.old × Zeros inbound.old }
-    ensures { outcome_reading result reds.new distances.new outbound.new inbound.new ≡ reading_of bytes.now }
+// The numbers of a sheet, section by section; or the code of its first fault. A signal's line has its distance before its red, a link's
+// its outbound speed before its inbound one.
+fn parse(bytes: &[u8]) -> Result<Sheet, Code>
+    ensures { result ≡ result_map sheet_of (parsed bytes.now) }
 {
     if bytes.len() > Sheet::MAX_BYTES {
-        return Outcome::Fault(Code::Sheet);
+        return Err(Code::Sheet);
     }
-    let Number::Ended(cycle, at) = cycle_at(bytes, 0) else {
-        return Outcome::Fault(Code::Sheet);
-    };
-    match count_at(bytes, at, Street::MIN_SIGNALS, Street::MAX_SIGNALS) {
-        Count::Wrong(code) => Outcome::Fault(code),
-        Count::Of(signals, first) => {
-            let Stand::At(next) = columns_at(bytes, first, signals, distances, reds) else {
-                return Outcome::Fault(Code::Sheet);
-            };
-            let count = signals - 1;
-            match count_at(bytes, next, count, count) {
-                Count::Wrong(code) => Outcome::Fault(code),
-                Count::Of(links, second) => {
-                    let Stand::At(last) = columns_at(bytes, second, links, outbound, inbound) else {
-                        return Outcome::Fault(Code::Sheet);
-                    };
-                    if last < bytes.len() {
-                        return Outcome::Fault(Code::Sheet);
-                    }
-                    Outcome::Whole(signals, cycle)
-                }
-            }
-        }
+    let mut reds = [0; Street::MAX_SIGNALS];
+    let mut distances = [0; Street::MAX_SIGNALS];
+    let mut outbound = [0; Street::MAX_SIGNALS];
+    let mut inbound = [0; Street::MAX_SIGNALS];
+    let (cycle, rest) = cycle(bytes).ok_or(Code::Sheet)?;
+    let (signals, rest) = section(
+        rest,
+        Street::MIN_SIGNALS,
+        Street::MAX_SIGNALS,
+        &mut distances,
+        &mut reds,
+    )?;
+    let links = signals - 1;
+    let (_, rest) = section(rest, links, links, &mut outbound, &mut inbound)?;
+    if !rest.is_empty() {
+        return Err(Code::Sheet);
     }
+    Ok(Sheet {
+        signals,
+        cycle,
+        reds,
+        distances,
+        outbound,
+        inbound,
+    })
 }
 
-// The numbers of a sheet, with its columns in four lent arrays; or the refusal of its first fault, which has code 1 or 2 and
-// place 0, with the arrays all 0. They come in all 0 too: `read` and `corbatan_read` of `exports` have just made them.
-pub fn fill(
-    bytes: &[u8],
-    reds: &mut [u32; Street::MAX_SIGNALS],
-    distances: &mut [u32; Street::MAX_SIGNALS],
-    outbound: &mut [u32; Street::MAX_SIGNALS],
-    inbound: &mut [u32; Street::MAX_SIGNALS],
-) -> Head
-    requires { Zeros reds.old × Zeros distances.old × Zeros outbound.old × Zeros inbound.old }
-    ensures { Reads bytes.now (assembled result reds.new distances.new outbound.new inbound.new) }
-{
-    match parse(bytes, reds, distances, outbound, inbound) {
-        Outcome::Whole(signals, cycle) => Head {
-            verdict: Verdict::Passed,
-            signals,
-            cycle,
-        },
-        Outcome::Fault(code) => {
-            *reds = [0; Street::MAX_SIGNALS];
-            *distances = [0; Street::MAX_SIGNALS];
-            *outbound = [0; Street::MAX_SIGNALS];
-            *inbound = [0; Street::MAX_SIGNALS];
-            Head {
-                verdict: Verdict::Refused(Refusal { code, place: 0 }),
-                signals: 0,
-                cycle: 0,
-            }
-        }
-    }
-}
-
-// The same, with the arrays in the reply.
-pub fn read(bytes: &[u8]) -> Reading
+// The numbers of a sheet; or the refusal of its first fault, which has code 1 or 2 and place 0.
+pub fn read(bytes: &[u8]) -> Result<Sheet, Refusal>
     ensures { Reads bytes.now result }
 {
-    let mut reds = [0u32; Street::MAX_SIGNALS];
-    let mut distances = [0u32; Street::MAX_SIGNALS];
-    let mut outbound = [0u32; Street::MAX_SIGNALS];
-    let mut inbound = [0u32; Street::MAX_SIGNALS];
-    let head = fill(
-        bytes,
-        &mut reds,
-        &mut distances,
-        &mut outbound,
-        &mut inbound,
-    );
-    let verdict = head.verdict;
-    Reading {
-        verdict,
-        sheet: Sheet {
-            signals: head.signals,
-            cycle: head.cycle,
-            reds,
-            distances,
-            outbound,
-            inbound,
-        },
-    }
+    parse(bytes).map_err(|code| Refusal { code, place: 0 })
 }

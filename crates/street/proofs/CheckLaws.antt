@@ -1,4 +1,5 @@
 -- Laws that the street's checks cite: what a failed range test says, and what a passed check tells of the numbers. Assumes nothing.
+use Rattle.std.specs.Prelude.{Ok, Err}
 use Prim.Native.Nat.{ℕ, ◌-◌, ◌≤◌, ◌<◌}
 use mathlib.Core.Path.{◌≡◌, refl}
 use mathlib.Core.Bool.{Bool, true, false, not}
@@ -13,8 +14,7 @@ use Rattle.street.specs.Checks.{within, unless_at, unless, or_next, count_check,
 use Rattle.street.specs.declared.Code.{Code}
 use Rattle.street.specs.declared.Code.TheVariants.{Sheet, Count, Room, Cycle, Red, Distance, Speed, Platoon, Width, Offset, Volume, Survey, Seconds}
 use Rattle.street.specs.Codes.{code_number}
-use Rattle.street.specs.declared.Verdict.{Verdict}
-use Rattle.street.specs.declared.Verdict.TheVariants.{Passed, Refused}
+use Rattle.street.specs.Verdicts.{Verdict}
 
 -- at or above the low end, a number is outside its range exactly when it is above the high end
 pub outside-within : (low high x : ℕ) → low ≤ x → ltb high x ≡ not (within low high x)
@@ -28,11 +28,11 @@ pub below_one : (i : ℕ) → i < 1 → i ≤ 0
 below_one i h = omega arith
 
 -- a check that passed tested true
-pub passes_at : (place : ℕ) (t : Bool) (code : Code) → unless_at place t code ≡ Passed → t ≡ true
+pub passes_at : (place : ℕ) (t : Bool) (code : Code) → unless_at place t code ≡ (Ok tt) → t ≡ true
 passes_at place true code e = refl
 passes_at place false code e = let z : ◌≡◌ {A = ℕ} 0 1 = cc in absurd (omega arith)
 
-pub passes : (t : Bool) (code : Code) → unless t code ≡ Passed → t ≡ true
+pub passes : (t : Bool) (code : Code) → unless t code ≡ (Ok tt) → t ≡ true
 passes = passes_at 0
 
 pub record Within (least most x : ℕ) : Type 0 where
@@ -51,7 +51,7 @@ pub record Counted (n d o i : ℕ) : Type 0 where
   pub outbound : o ≡ n - 1
   pub inbound : i ≡ n - 1
 
-pub counted : (n d o i : ℕ) → count_check n d o i ≡ Passed → Counted n d o i
+pub counted : (n d o i : ℕ) → count_check n d o i ≡ (Ok tt) → Counted n d o i
 unfolding count_check
 counted n d o i e =
     let all = passes _ Count e in
@@ -66,18 +66,18 @@ counted n d o i e =
       inbound = eqb-true _ _ (cond_right (eqb o (n - 1)) _ rest2);
     }
 
-pub room_enough : (needed room : ℕ) → room_check needed room ≡ Passed → needed ≤ room
+pub room_enough : (needed room : ℕ) → room_check needed room ≡ (Ok tt) → needed ≤ room
 unfolding room_check
 room_enough needed room e = leb-true needed room (passes (leb needed room) Room e)
 
-pub cycle_range : (ticks : ℕ) → cycle_check ticks ≡ Passed → Within min_cycle max_cycle ticks
+pub cycle_range : (ticks : ℕ) → cycle_check ticks ≡ (Ok tt) → Within min_cycle max_cycle ticks
 unfolding cycle_check
 cycle_range ticks e = within_range min_cycle max_cycle ticks (passes _ Cycle e)
 
 -- the last check decides where all before it passed
-pub last_check : (v : Verdict) → or_next v Passed ≡ v
-last_check Passed = refl
-last_check (Refused f) = refl
+pub last_check : (v : Verdict) → or_next v (Ok tt) ≡ v
+last_check (Ok tt) = refl
+last_check (Err f) = refl
 
 -- no code is 0
 pub code_some : (c : Code) → 1 ≤ code_number c

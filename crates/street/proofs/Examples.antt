@@ -1,4 +1,5 @@
 -- Each check at the ends of what it lets pass, by its verdict's number or place, 0 where it passes; and what a call leaves in a lent list. Assumes nothing.
+use Rattle.std.specs.Prelude.{Ok}
 use Prim.Native.Nat.{ℕ}
 use mathlib.Core.Path.{◌≡◌, refl}
 use mathlib.Core.List.{List, [], ◌∷◌, map}
@@ -6,8 +7,7 @@ use Rattle.circle.specs.Over.{first_below}
 use Rattle.street.specs.Codes.{code_of, place_of}
 use Rattle.street.specs.Checks.{refuse, count_check, room_check, cycle_check, red_check, distance_check, speed_check, written}
 use Rattle.street.specs.declared.Code.TheVariants.{Room}
-use Rattle.street.specs.declared.Verdict.{Verdict}
-use Rattle.street.specs.declared.Verdict.TheVariants.{Passed}
+use Rattle.street.specs.Verdicts.{Verdict}
 
 -- signals, distances, outbound and inbound speeds: 1 and 32 signals pass; 0 and 33 do not, nor do a distance too few, an outbound speed too many and an inbound one too few
 counts : map code_of (count_check 1 1 0 0 ∷ count_check 32 32 31 31 ∷ count_check 0 0 0 0 ∷ count_check 33 33 32 32 ∷ []) ≡ 0 ∷ 0 ∷ 2 ∷ 2 ∷ []
@@ -42,5 +42,5 @@ unfolding speed_check first_below
 speeds = refl
 
 -- two entries over a lent list of three sevens: the third stays, and a refusal leaves all
-left : map (λ (v : Verdict). written v (1 ∷ 2 ∷ []) (7 ∷ 7 ∷ 7 ∷ [])) (Passed ∷ refuse Room 0 ∷ []) ≡ (1 ∷ 2 ∷ 7 ∷ []) ∷ (7 ∷ 7 ∷ 7 ∷ []) ∷ []
+left : map (λ (v : Verdict). written v (1 ∷ 2 ∷ []) (7 ∷ 7 ∷ 7 ∷ [])) ((Ok tt) ∷ refuse Room 0 ∷ []) ≡ (1 ∷ 2 ∷ 7 ∷ []) ∷ (7 ∷ 7 ∷ 7 ∷ []) ∷ []
 left = refl

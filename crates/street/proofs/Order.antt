@@ -7,7 +7,7 @@ use Rattle.circle.specs.Over.{first_below}
 use Rattle.street.specs.Lists.{typed}
 use Rattle.street.specs.Codes.{code_of, place_of}
 use Rattle.street.specs.Checks.{count_check, room_check, cycle_check, red_check, distance_check, speed_check, plan_checks}
-use Rattle.street.specs.declared.Verdict.{Verdict}
+use Rattle.street.specs.Verdicts.{Verdict}
 
 -- two signals: the cycle, the second red and distance, the outbound speed, the inbound speeds, of which there should be one, and the lent list's room
 abbrev judged : ℕ → ℕ → ℕ → ℕ → List ℕ → ℕ → Verdict

@@ -1,7 +1,8 @@
 -- What is known of a street's numbers once every check of a plan has passed, in the words of plain numbers. Each check that passed tested true, or searched for
 -- a fault and found none. Assumes nothing.
+use Rattle.std.specs.Prelude.{Ok, Err}
 use Prim.Native.Nat.{ℕ, ◌+◌, ◌-◌, ◌≤◌, ◌<◌}
-use mathlib.Core.Path.{◌≡◌, refl, sym, ap, ap₂, ◌∙◌}
+use mathlib.Core.Path.{◌≡◌, refl, sym, ap₂, ◌∙◌}
 use mathlib.Core.Bool.{Bool, true, false, cond, not}
 use mathlib.Core.List.{List, [], ◌∷◌, ◌++◌}
 use native.Mathlib.Nat.{le_refl}
@@ -18,47 +19,37 @@ use Rattle.street.specs.Lists.{Lists, signals}
 use Rattle.street.specs.Checks.{within, fault_at, or_next, first_fault, bad_red, bad_distance, bad_speed, count_check, room_check, cycle_check, red_check, distance_check, speed_check, counts, opening_checks, number_checks, plan_checks, street_checks}
 use Rattle.street.specs.declared.Code.{Code}
 use Rattle.street.specs.declared.Code.TheVariants.{Red, Distance, Speed}
-use Rattle.street.specs.declared.Refusal.{Refusal}
-use Rattle.street.specs.declared.Verdict.{Verdict}
-use Rattle.street.specs.declared.Verdict.TheVariants.{Passed, Refused}
+use Rattle.street.specs.Verdicts.{Verdict}
 use Rattle.street.proofs.CheckLaws.{Within, within_range, Counted, counted, room_enough, cycle_range, last_check}
 
 -- checks that passed one after the other each passed
-pub first_passed : (v w : Verdict) → or_next v w ≡ Passed → v ≡ Passed
-first_passed Passed w e = refl
-first_passed (Refused f) w e = e
+pub first_passed : (v w : Verdict) → or_next v w ≡ (Ok tt) → v ≡ (Ok tt)
+first_passed (Ok tt) w e = refl
+first_passed (Err f) w e = e
 
-pub rest_passed : (v w : Verdict) → or_next v w ≡ Passed → w ≡ Passed
-rest_passed Passed w e = e
-rest_passed (Refused f) w e = let z : ◌≡◌ {A = ℕ} 0 1 = cc in absurd (omega arith)
+pub rest_passed : (v w : Verdict) → or_next v w ≡ (Ok tt) → w ≡ (Ok tt)
+rest_passed (Ok tt) w e = e
+rest_passed (Err f) w e = let z : ◌≡◌ {A = ℕ} 0 1 = cc in absurd (omega arith)
 
 -- the first fault of two lists of checks, one after the other, is the first list's, or else the second's
 pub first_of_both : (xs ys : List Verdict) → or_next (first_fault xs) (first_fault ys) ≡ first_fault (xs ++ ys)
 first_of_both [] ys = refl
-first_of_both (Passed ∷ xs) ys = first_of_both xs ys
-first_of_both (Refused f ∷ xs) ys = refl
+first_of_both ((Ok tt) ∷ xs) ys = first_of_both xs ys
+first_of_both (Err f ∷ xs) ys = refl
 
--- so a plan's fault is the opening's verdict, or else the numbers', whose checks require what the opening tells
-module _ (l : Lists) (room : ℕ) (first : Verdict) (is : first ≡ first_fault (opening_checks l room)) where
-  then : (v : Verdict) → first ≡ v → or_next v (first_fault (number_checks l)) ≡ plan_checks l room
-  unfolding plan_checks
-  then v e =
-      ap (λ w. or_next w (first_fault (number_checks l))) (sym e ∙ is) ∙ first_of_both (opening_checks l room) (number_checks l)
+-- so a plan's fault is the opening's, or else the numbers'
+pub plan_parts : (l : Lists) (room : ℕ) → or_next (first_fault (opening_checks l room)) (first_fault (number_checks l)) ≡ plan_checks l room
+unfolding plan_checks
+plan_parts l room = first_of_both (opening_checks l room) (number_checks l)
 
-  pub plan-refused : (f : Refusal) → first ≡ Refused f → Refused f ≡ plan_checks l room
-  plan-refused f e = then (Refused f) e
-
-  pub plan-numbers : first ≡ Passed → (v : Verdict) → v ≡ first_fault (number_checks l) → v ≡ plan_checks l room
-  plan-numbers e v same = same ∙ then Passed e
-
-  pub opening_tells : first ≡ Passed → (1 ≤ l.cycle) × (counts l ≡ Passed)
-  opening_tells e =
-      let all = sym is ∙ e in
-      let on = rest_passed (room_check (signals l) room) _ (rest_passed (counts l) _ all) in
-      (omega (arith, (cycle_range l.cycle (first_passed (cycle_check l.cycle) Passed on)).low), first_passed (counts l) _ all)
+-- and what the opening tells is what the numbers' checks require
+pub opening_tells : (l : Lists) (room : ℕ) → first_fault (opening_checks l room) ≡ Ok tt → (1 ≤ l.cycle) × (counts l ≡ Ok tt)
+opening_tells l room all =
+    let on = rest_passed (room_check (signals l) room) _ (rest_passed (counts l) _ all) in
+    (omega (arith, (cycle_range l.cycle (first_passed (cycle_check l.cycle) (Ok tt) on)).low), first_passed (counts l) _ all)
 
 -- a search that found no fault
-pub no_fault : (code : Code) (f : Found) → fault_at code f ≡ Passed → f ≡ nowhere
+pub no_fault : (code : Code) (f : Found) → fault_at code f ≡ (Ok tt) → f ≡ nowhere
 no_fault code nowhere e = refl
 no_fault code (at i) e = let z : ◌≡◌ {A = ℕ} 0 1 = cc in absurd (omega arith)
 
@@ -71,7 +62,7 @@ or_right true q e = let z : ◌≡◌ {A = ℕ} 0 1 = cc in absurd (omega arith)
 or_right false q e = e
 
 -- distances that passed rise, and are near enough
-pub distances_rise : (ds : List ℕ) → distance_check ds ≡ Passed → (k : ℕ) → k + 1 < length ds → get_or ds k 0 < get_or ds (k + 1) 0
+pub distances_rise : (ds : List ℕ) → distance_check ds ≡ (Ok tt) → (k : ℕ) → k + 1 < length ds → get_or ds k 0 < get_or ds (k + 1) 0
 unfolding distance_check
 distances_rise ds e k l =
     let none = first-none (length ds) (bad_distance ds) (no_fault Distance (first_below (length ds) (bad_distance ds)) e) (k + 1) l in
@@ -82,7 +73,7 @@ distances_rise ds e k l =
     ap₂ (λ t (j : ℕ). cond t (leb (get_or ds (k + 1) 0) (get_or ds j 0)) false) (lt-ltb 0 (k + 1) later) same in
     leb-false _ _ (sym open-test ∙ above)
 
-pub distances-near : (ds : List ℕ) → distance_check ds ≡ Passed → (k : ℕ) → k < length ds → get_or ds k 0 ≤ max_distance
+pub distances-near : (ds : List ℕ) → distance_check ds ≡ (Ok tt) → (k : ℕ) → k < length ds → get_or ds k 0 ≤ max_distance
 unfolding distance_check
 distances-near ds e k l =
     let none = first-none (length ds) (bad_distance ds) (no_fault Distance (first_below (length ds) (bad_distance ds)) e) k l in
@@ -92,7 +83,7 @@ pub record Speeds (out back : ℕ) : Type 0 where
   pub outbound : Within min_speed max_speed out
   pub inbound : Within min_speed max_speed back
 
-pub speeds_within : (outs ins : List ℕ) → speed_check outs ins ≡ Passed → (k : ℕ) → k < length outs → Speeds (get_or outs k 0) (get_or ins k 0)
+pub speeds_within : (outs ins : List ℕ) → speed_check outs ins ≡ (Ok tt) → (k : ℕ) → k < length outs → Speeds (get_or outs k 0) (get_or ins k 0)
 unfolding speed_check
 speeds_within outs ins e k l =
     let none = first-none (length outs) (bad_speed outs ins) (no_fault Speed (first_below (length outs) (bad_speed outs ins)) e) k l in
@@ -103,7 +94,7 @@ speeds_within outs ins e k l =
       inbound = within_range min_speed max_speed (get_or ins k 0) (not-false _ back);
     }
 
-pub reds_within : (cycle : ℕ) (reds : List ℕ) → red_check cycle reds ≡ Passed → (k : ℕ) → k < length reds → get_or reds k 0 ≤ cycle - 1
+pub reds_within : (cycle : ℕ) (reds : List ℕ) → red_check cycle reds ≡ (Ok tt) → (k : ℕ) → k < length reds → get_or reds k 0 ≤ cycle - 1
 unfolding red_check
 reds_within cycle reds e k l =
     let none = first-none (length reds) (bad_red cycle reds) (no_fault Red (first_below (length reds) (bad_red cycle reds)) e) k l in
@@ -120,14 +111,14 @@ pub record InLimits (l : Lists) (room : ℕ) : Type 0 where
   pub inbound : Driveable l.distances l.inbound
 
 record AllPassed (l : Lists) (room : ℕ) : Type 0 where
-  counts : count_check (signals l) (length l.distances) (length l.outbound) (length l.inbound) ≡ Passed
-  roomy : room_check (signals l) room ≡ Passed
-  cycle : cycle_check l.cycle ≡ Passed
-  reds : red_check l.cycle l.reds ≡ Passed
-  distances : distance_check l.distances ≡ Passed
-  speeds : speed_check l.outbound l.inbound ≡ Passed
+  counts : count_check (signals l) (length l.distances) (length l.outbound) (length l.inbound) ≡ (Ok tt)
+  roomy : room_check (signals l) room ≡ (Ok tt)
+  cycle : cycle_check l.cycle ≡ (Ok tt)
+  reds : red_check l.cycle l.reds ≡ (Ok tt)
+  distances : distance_check l.distances ≡ (Ok tt)
+  speeds : speed_check l.outbound l.inbound ≡ (Ok tt)
 
-all_passed : (l : Lists) (room : ℕ) → plan_checks l room ≡ Passed → AllPassed l room
+all_passed : (l : Lists) (room : ℕ) → plan_checks l room ≡ (Ok tt) → AllPassed l room
 unfolding plan_checks
 all_passed l room e =
     let count = count_check (signals l) (length l.distances) (length l.outbound) (length l.inbound) in
@@ -142,11 +133,11 @@ all_passed l room e =
       cycle = first_passed (cycle_check l.cycle) _ e2;
       reds = first_passed (red_check l.cycle l.reds) _ e3;
       distances = first_passed (distance_check l.distances) _ e4;
-      speeds = first_passed (speed_check l.outbound l.inbound) Passed e5;
+      speeds = first_passed (speed_check l.outbound l.inbound) (Ok tt) e5;
     }
 
 -- one direction, from the facts that both share
-driveable : (ds vs : List ℕ) → length ds ≡ length vs + 1 → length ds ≤ max_signals → distance_check ds ≡ Passed → ((k : ℕ) → k < length vs → Within min_speed max_speed (get_or vs k 0)) → Driveable ds vs
+driveable : (ds vs : List ℕ) → length ds ≡ length vs + 1 → length ds ≤ max_signals → distance_check ds ≡ (Ok tt) → ((k : ℕ) → k < length vs → Within min_speed max_speed (get_or vs k 0)) → Driveable ds vs
 driveable ds vs ends few placed speeds =
     record {
       ends = ends;
@@ -157,7 +148,7 @@ driveable ds vs ends few placed speeds =
       fast = λ k h. (speeds k h).high;
     }
 
-pub in_limits : (l : Lists) (room : ℕ) → plan_checks l room ≡ Passed → InLimits l room
+pub in_limits : (l : Lists) (room : ℕ) → plan_checks l room ≡ (Ok tt) → InLimits l room
 in_limits l room e =
     let passed = all_passed l room e in
     let counts = counted (signals l) (length l.distances) (length l.outbound) (length l.inbound) passed.counts in
@@ -175,7 +166,7 @@ in_limits l room e =
     }
 
 -- the checks pass with any room that is enough
-pub enough_room : (l : Lists) (room other : ℕ) → plan_checks l room ≡ Passed → signals l ≤ other → plan_checks l other ≡ Passed
+pub enough_room : (l : Lists) (room other : ℕ) → plan_checks l room ≡ (Ok tt) → signals l ≤ other → plan_checks l other ≡ (Ok tt)
 unfolding plan_checks room_check
 enough_room l room other e fits =
     let passed = all_passed l room e in

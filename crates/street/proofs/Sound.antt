@@ -1,20 +1,19 @@
 -- A street whose checks passed is sound: what the search builds on, read off its padded arrays, and it is the method's street of the typed lists at every signal. Assumes nothing.
+use Rattle.std.specs.Prelude.{Ok, Err}
 use Prim.Native.Nat.{ℕ}
-use mathlib.Core.Path.{◌≡◌, refl, sym, ap, ◌∙◌, subst}
+use mathlib.Core.Path.{◌≡◌, refl}
 use native.Mathlib.Omega.{arith}
 use Rattle.circle.proofs.Formulas.{Agree}
 use Rattle.road.proofs.Paved.{get_or-padded, paved}
 use Rattle.street.specs.Lists.{Lists, signals}
 use Rattle.street.specs.Checks.{plan_checks}
 use Rattle.street.specs.Streets.{timed}
-use Rattle.street.specs.Steps.{street_of, built, built_as, timed_street, Sound}
-use Rattle.street.specs.declared.Street.{Street}
-use Rattle.street.specs.declared.Built.{Built}
-use Rattle.street.specs.declared.Verdict.{Verdict}
-use Rattle.street.specs.declared.Verdict.TheVariants.{Passed, Refused}
+use Rattle.street.specs.declared.Refusal.{Refusal}
+use Rattle.street.specs.Verdicts.{Verdict, verdict_of, answered}
+use Rattle.street.specs.Steps.{Checked, street_of, built, timed_street, Sound}
 use Rattle.street.proofs.Passed.{in_limits}
 
-module _ (l : Lists) (room : ℕ) (passed : plan_checks l room ≡ Passed) where
+module _ (l : Lists) (room : ℕ) (passed : plan_checks l room ≡ (Ok tt)) where
   pub sound : Sound (timed_street (street_of l))
   sound =
       let ok = in_limits l room passed in
@@ -40,16 +39,24 @@ module _ (l : Lists) (room : ℕ) (passed : plan_checks l room ≡ Passed) where
         inbound = λ k h. get_or-padded (signals l) (timed l).inbound k h;
       }
 
--- what the constructor's answer says of the checks and of the street
-pub verdict_checks : (l : Lists) (room : ℕ) (r : Built) (v : Verdict) → r ≡ built l room → r.verdict ≡ v → plan_checks l room ≡ v
-verdict_checks l room r v e q = sym (verdict_of (plan_checks l room)) ∙ sym (ap (λ x. x.verdict) e) ∙ q
-  where
-    verdict_of : (w : Verdict) → (built_as w (street_of l)).verdict ≡ w
-    verdict_of Passed = refl
-    verdict_of (Refused f) = refl
+-- an answer tells what the checks came to
+pub answer_tells : {A : Type 0} (v : Verdict) (a : A) → verdict_of (answered v a) ≡ v
+answer_tells (Ok tt) a = refl
+answer_tells (Err f) a = refl
 
-pub passed_street : (l : Lists) (room : ℕ) (r : Built) → r ≡ built l room → plan_checks l room ≡ Passed → r.street ≡ street_of l
-passed_street l room r e p = ap (λ x. x.street) e ∙ ap (λ v. (built_as v (street_of l)).street) p
+-- what a call's answer tells where there is one: every check passed, and it is what was asked for
+pub answered_ok : {A : Type 0} (v : Verdict) (a b : A) → answered v a ≡ Ok b → (v ≡ Ok tt) × (b ≡ a)
+answered_ok (Ok u) a b e = (refl, cc)
+answered_ok (Err f) a b e = (cc, cc)
 
-pub passed_sound : (l : Lists) (room : ℕ) (s : Street) → s ≡ street_of l → plan_checks l room ≡ Passed → Sound (timed_street s)
-passed_sound l room s e p = subst (λ x. Sound (timed_street x)) (sym e) (sound l room p)
+-- so a street was made of lists that passed
+pub built_ok : (l : Lists) (room : ℕ) (s : Checked) → built l room ≡ Ok s → (plan_checks l room ≡ Ok tt) × (s ≡ street_of l)
+built_ok l room s e = answered_ok (plan_checks l room) (street_of l) s e
+
+-- and where there is none: the refusal is the checks'
+pub answered_err : {A : Type 0} (v : Verdict) (a : A) (f : Refusal) → answered v a ≡ Err f → v ≡ Err f
+answered_err (Ok u) a f e = cc
+answered_err (Err g) a f e = cc
+
+pub built_err : (l : Lists) (room : ℕ) (f : Refusal) → built l room ≡ Err f → plan_checks l room ≡ Err f
+built_err l room f e = answered_err (plan_checks l room) (street_of l) f e

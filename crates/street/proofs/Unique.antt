@@ -1,13 +1,14 @@
 -- The contract of `Street::new` determines its reply: two replies that it allows for the same lists and room are equal. And what two equations, one for the reply and one for a
 -- lent list, determine: a call's contract is such a pair wherever a list is lent. Assumes nothing.
+use Rattle.std.specs.Prelude.{Result}
 use Prim.Native.Nat.{ℕ}
 use mathlib.Core.Path.{◌≡◌, sym, ◌∙◌}
 use mathlib.Core.List.{List}
 use Rattle.street.specs.Lists.{Lists}
-use Rattle.street.specs.Steps.{built}
-use Rattle.street.specs.declared.Built.{Built}
+use Rattle.street.specs.Steps.{Checked, built}
+use Rattle.street.specs.declared.Refusal.{Refusal}
 
-pub new_unique : (l : Lists) (room : ℕ) (r r' : Built) → r ≡ built l room → r' ≡ built l room → r ≡ r'
+pub new_unique : (l : Lists) (room : ℕ) (r r' : Result Checked Refusal) → r ≡ built l room → r' ≡ built l room → r ≡ r'
 new_unique l room r r' e e' = e ∙ sym e'
 
 -- one reply, and one final list

@@ -1,21 +1,20 @@
 -- Each check of a street, the refusal of a list of checks, which is its first fault, and what a call leaves in a list that was lent to it (01, 'Codes, in order of checking').
-use Rattle.std.specs.Prelude.{ℕ, ◌+◌, ◌-◌, Bool, cond, not, List, [], ◌∷◌, ◌++◌, length, drop, get_or, leb, ltb, eqb}
+use Rattle.std.specs.Prelude.{ℕ, ◌+◌, ◌-◌, Bool, cond, not, List, [], ◌∷◌, ◌++◌, length, drop, get_or, leb, ltb, eqb, Ok, Err}
 use Rattle.circle.specs.Over.{Found, nowhere, at, ◌and◌, ◌or◌, first_below}
 use Rattle.road.specs.Limits.{min_signals, max_signals, max_distance, min_speed, max_speed}
 use Rattle.street.specs.Limits.{min_cycle, max_cycle}
 use Rattle.street.specs.Lists.{Lists, signals}
 use Rattle.street.specs.declared.Code.{Code}
 use Rattle.street.specs.declared.Code.TheVariants.{Count, Room, Cycle, Red, Distance, Speed}
-use Rattle.street.specs.declared.Verdict.{Verdict}
-use Rattle.street.specs.declared.Verdict.TheVariants.{Passed, Refused}
+use Rattle.street.specs.Verdicts.{Verdict}
 
 -- a refusal with its code and place
 abbrev pub refuse : Code → ℕ → Verdict
-refuse code place = Refused (record { code = code; place = place })
+refuse code place = Err (record { code = code; place = place })
 
 -- a check of one test: it passes, or refuses at its place
 abbrev pub unless_at : ℕ → Bool → Code → Verdict
-unless_at place ok code = cond ok Passed (refuse code place)
+unless_at place ok code = cond ok (Ok tt) (refuse code place)
 
 -- one that has no place of its own refuses at place 0
 abbrev pub unless : Bool → Code → Verdict
@@ -23,17 +22,17 @@ unless = unless_at 0
 
 -- a check of a list: it refuses at the first faulty entry, counted from 1
 abbrev pub fault_at : Code → Found → Verdict
-fault_at code nowhere = Passed
+fault_at code nowhere = (Ok tt)
 fault_at code (at i) = refuse code (i + 1)
 
 -- a check's refusal, or else what the next comes to
 abbrev pub or_next : Verdict → Verdict → Verdict
-or_next Passed next = next
-or_next (Refused f) next = Refused f
+or_next (Ok tt) next = next
+or_next (Err f) next = Err f
 
 -- a call's refusal is the first fault in its list of checks
 abbrev pub first_fault : List Verdict → Verdict
-first_fault [] = Passed
+first_fault [] = (Ok tt)
 first_fault (v ∷ vs) = or_next v (first_fault vs)
 
 -- whether a number lies from one bound to another, both included
@@ -104,5 +103,5 @@ street_checks l = counts l ∷ cycle_check l.cycle ∷ number_checks l
 
 -- a list after a call that may write its first entries: as before where the call refused, else those entries and the rest as before
 abbrev pub written : Verdict → List ℕ → List ℕ → List ℕ
-written Passed entries before = entries ++ drop (length entries) before
-written (Refused f) entries before = before
+written (Ok tt) entries before = entries ++ drop (length entries) before
+written (Err f) entries before = before

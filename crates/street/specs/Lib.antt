@@ -1,6 +1,7 @@
 pub mod Limits
 pub mod Lists
 pub mod Codes
+pub mod Verdicts
 pub mod Checks
 pub mod Streets
 pub mod Steps

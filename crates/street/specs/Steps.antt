@@ -1,22 +1,27 @@
 -- Steps: what the library's functions say to each other and to the proofs. No contract of a public call cites it.
-use Rattle.std.specs.Prelude.{ℕ, ◌-◌, ◌*◌, ◌≤◌, ◌<◌, List, get_or, replicate}
+use Rattle.std.specs.Prelude.{ℕ, ◌-◌, ◌*◌, ◌≤◌, ◌<◌, List, get_or, Result}
 use Rattle.circle.specs.Method.{Timed}
 use Rattle.road.specs.Limits.{min_signals, max_signals}
 use Rattle.road.specs.Steps.{max_time, padded, road_of}
 use Rattle.street.specs.Limits.{min_cycle, max_cycle}
 use Rattle.street.specs.Lists.{Lists, signals}
 use Rattle.street.specs.Checks.{plan_checks}
-use Rattle.street.specs.declared.Street.{Street}
-use Rattle.street.specs.declared.Built.{Built}
-use Rattle.street.specs.declared.Verdict.{Verdict}
-use Rattle.street.specs.declared.Verdict.TheVariants.{Passed, Refused}
+use Rattle.road.specs.declared.Road.{Road}
+use Rattle.street.specs.declared.Refusal.{Refusal}
+use Rattle.street.specs.Verdicts.{answered}
 
 -- the longest cycle, in halves
 abbrev pub max_halves : ℕ
 max_halves = 2 * max_cycle
 
--- the street of lists that pass every check: a road, a cycle and reds
-abbrev pub street_of : Lists → Street
+-- a street whose checks have all passed: a road, the cycle in ticks, and each signal's red in ticks
+pub record Checked : Type 0 where
+  pub road : Road
+  pub cycle : ℕ
+  pub reds : List ℕ
+
+-- the street of lists that pass every check
+abbrev pub street_of : Lists → Checked
 street_of l =
     record {
       road = road_of (signals l) l.distances l.outbound l.inbound;
@@ -24,23 +29,9 @@ street_of l =
       reds = padded (signals l) (λ j. get_or l.reds j 0);
     }
 
--- the street that goes with a refusal: every number 0
-abbrev pub no_street : Street
-no_street =
-    record {
-      road = record { signals = 0; outbound = replicate max_signals 0; inbound = replicate max_signals 0; rounded = 0 };
-      cycle = 0;
-      reds = replicate max_signals 0;
-    }
-
--- a verdict, with the street where it passed
-abbrev pub built_as : Verdict → Street → Built
-built_as Passed s = record { verdict = Passed; street = s }
-built_as (Refused f) s = record { verdict = Refused f; street = no_street }
-
 -- what the constructor answers to a plan's lists and the lent list's room
-abbrev pub built : Lists → ℕ → Built
-built l room = built_as (plan_checks l room) (street_of l)
+abbrev pub built : Lists → ℕ → Result Checked Refusal
+built l room = answered (plan_checks l room) (street_of l)
 
 -- a street as the method takes it, of a cycle, a number of signals and their reds, whatever the times are
 abbrev pub timed_with : ℕ → ℕ → List ℕ → (ℕ → ℕ) → (ℕ → ℕ) → Timed
@@ -52,7 +43,7 @@ abbrev pub timed_by : ℕ → ℕ → List ℕ → List ℕ → List ℕ → Tim
 timed_by cycle n reds outbound inbound = timed_with cycle n reds (λ j. get_or outbound j 0) (λ j. get_or inbound j 0)
 
 -- and of a street
-abbrev pub timed_street : Street → Timed
+abbrev pub timed_street : Checked → Timed
 timed_street s = timed_by s.cycle s.road.signals s.reds s.road.outbound s.road.inbound
 
 -- what holds of every street whose checks passed: what the search builds on. Its inbound times grow along it, so that none is above signal n's

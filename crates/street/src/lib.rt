@@ -6,7 +6,7 @@ pub mod checks;
 
 ghost use Rattle.std.specs.Prelude.{◌≡◌, ◌≤◌, length, get_or};
 ghost use Rattle.road.specs.Limits.{min_signals, max_signals, max_distance, min_speed, max_speed};
-ghost use Rattle.road.specs.Steps.{Zeros, padded};
+ghost use Rattle.road.specs.Steps.{padded};
 ghost use Rattle.street.specs.Limits.{min_cycle, max_cycle, max_platoon, max_volume, min_headway, max_headway};
 ghost use Rattle.street.specs.Lists.{typed};
 ghost use Rattle.street.specs.Codes.{code_number};
@@ -14,9 +14,10 @@ ghost use Rattle.street.specs.Checks.{refuse};
 ghost use Rattle.street.specs.Steps.{built};
 
 use road::Road;
+use std::marker::Model;
 
-// The refusals of document 01, in the order of its table, and then those of 02; `code_number` answers the number of each.
-#[derive(Clone, Copy)]
+// The refusals of document 01, in the order of its table, and then those of 02; `From` gives the number of each.
+#[derive(Clone, Copy, Debug, PartialEq, Eq)]
 pub enum Code {
     Sheet,
     Count,
@@ -34,60 +35,93 @@ pub enum Code {
 }
 
 // A numbered refusal: what was wrong, and at which signal or link, counted from 1; 0 where the code has no place.
-#[derive(Clone, Copy)]
+#[derive(Clone, Copy, Debug, PartialEq, Eq)]
 pub struct Refusal {
     pub code: Code,
     pub place: u32,
 }
 
-// What a check comes to.
-#[derive(Clone, Copy)]
-pub enum Verdict {
-    Passed,
-    Refused(Refusal),
-}
-
 // A refusal's number.
-pub fn code_number(code: Code) -> u32
-    ensures { result ≡ code_number code }
-{
-    match code {
-        Code::Sheet => 1,
-        Code::Count => 2,
-        Code::Room => 3,
-        Code::Cycle => 4,
-        Code::Red => 5,
-        Code::Distance => 6,
-        Code::Speed => 7,
-        Code::Platoon => 8,
-        Code::Width => 9,
-        Code::Offset => 10,
-        Code::Volume => 11,
-        Code::Survey => 12,
-        Code::Seconds => 13,
+impl From<Code> for u32 {
+    ghost from_gives = { λ code n. n ≡ code_number code };
+
+    fn from(code: Code) -> u32 {
+        match code {
+            Code::Sheet => 1,
+            Code::Count => 2,
+            Code::Room => 3,
+            Code::Cycle => 4,
+            Code::Red => 5,
+            Code::Distance => 6,
+            Code::Speed => 7,
+            Code::Platoon => 8,
+            Code::Width => 9,
+            Code::Offset => 10,
+            Code::Volume => 11,
+            Code::Survey => 12,
+            Code::Seconds => 13,
+        }
     }
 }
 
-// The verdict of a check that found a fault.
-pub fn refused(code: Code, place: u32) -> Verdict
+// What a check that found a fault answers.
+pub fn refused(code: Code, place: u32) -> Result<(), Refusal>
     ensures { result ≡ refuse code place }
 {
-    Verdict::Refused(Refusal { code, place })
+    Err(Refusal { code, place })
 }
 
-// A number of signals, as it was. It is small enough already; once it is tested here, the compiler knows that too, and unrolls the
-// loops that it bounds.
+// A number of signals, as it was. It is small enough already; once it is held against the most here, the compiler knows that too, and
+// unrolls the loops that it bounds.
 pub fn bounded(signals: usize) -> usize
     requires { signals ≤ max_signals }
     ensures { result ≡ signals }
 {
-    if signals > Street::MAX_SIGNALS {
-        return Street::MAX_SIGNALS;
-    }
-    signals
+    signals.min(Street::MAX_SIGNALS)
 }
 
-// A street whose checks have all passed, as the search needs it: a road, the cycle in ticks, and each signal's red in ticks.
+// The numbers that a caller hands over for a street, just as typed: the cycle in ticks, each signal's red in ticks and distance in mm,
+// and each link's two speeds in mm/s.
+#[derive(Drop)]
+pub struct Lists<'a> {
+    pub cycle: u32,
+    pub reds: &'a [u32],
+    pub distances: &'a [u32],
+    pub outbound: &'a [u32],
+    pub inbound: &'a [u32],
+}
+
+impl<'a> Model for Lists<'a> {
+    ghost use Rattle.street.specs.Lists.{Lists, typed};
+
+    ghost Value = { Lists };
+
+    ghost view = { λ a. typed a.cycle a.reds.now a.distances.now a.outbound.now a.inbound.now };
+}
+
+impl<'a> Lists<'a> {
+    // The lists of a street, one by one as a C caller hands them over.
+    pub fn new(
+        cycle: u32,
+        reds: &'a [u32],
+        distances: &'a [u32],
+        outbound: &'a [u32],
+        inbound: &'a [u32],
+    ) -> Lists<'a>
+        ensures { result ≡ typed cycle reds.now distances.now outbound.now inbound.now }
+    {
+        Lists {
+            cycle,
+            reds,
+            distances,
+            outbound,
+            inbound,
+        }
+    }
+}
+
+// A street whose checks have all passed, as the search needs it: a road, the cycle in ticks, and each signal's red in ticks. What the
+// checks tell of its numbers holds of every such street.
 #[derive(Clone, Copy)]
 pub struct Street {
     pub road: Road,
@@ -95,23 +129,26 @@ pub struct Street {
     pub reds: [u32; Street::MAX_SIGNALS],
 }
 
-// What the constructor answers: the verdict, and the street beside it, all 0 where the verdict is a refusal.
-#[derive(Clone, Copy)]
-pub struct Built {
-    pub verdict: Verdict,
-    pub street: Street,
+impl Model for Street {
+    ghost use Rattle.street.specs.Steps.{Checked, Sound, timed_street};
+
+    ghost Value = { Checked };
+
+    ghost view = { λ a. record { road = a.road; cycle = a.cycle; reds = a.reds } };
+
+    ghost invariant = { λ a. Sound (timed_street (record { road = a.road; cycle = a.cycle; reds = a.reds })) };
+
+    ghost inverse = { λ s. record { road = s.road; cycle = s.cycle; reds = s.reds } };
 }
 
 // A list as the entries of a street: copied into an array of zeros.
-fn copied(list: &[u32], all: &mut [u32; Street::MAX_SIGNALS])
-    requires { (length list.now ≤ max_signals) × Zeros all.old }
-    ensures { all.new ≡ padded (length list.now) (λ j. get_or list.now j 0) }
+fn padded(list: &[u32]) -> [u32; Street::MAX_SIGNALS]
+    requires { length list.now ≤ max_signals }
+    ensures { result ≡ padded (length list.now) (λ j. get_or list.now j 0) }
 {
-    let mut i: usize = 0;
-    while i < list.len() {
-        all[i] = list[i];
-        i += 1;
-    }
+    let mut all = [0; Street::MAX_SIGNALS];
+    all[..list.len()].copy_from_slice(list);
+    all
 }
 
 impl Street {
@@ -139,44 +176,16 @@ impl Street {
 
     pub const MAX_HEADWAY: u32 = 100;
 
-    // The constructor: every check of a plan over a lent list of `lent` entries, in document 01's order, and then the street. Its
-    // arrays are filled where they stand and put together once, whatever the verdict: a refusal leaves every number 0.
-    pub fn new(
-        cycle: u32,
-        reds: &[u32],
-        distances: &[u32],
-        outbound: &[u32],
-        inbound: &[u32],
-        lent: usize,
-    ) -> Built
-        ensures { result ≡ built (typed cycle reds.now distances.now outbound.now inbound.now) lent }
+    // The constructor: every check of a plan over a lent list of `lent` entries, in document 01's order, and then the street.
+    pub fn new(street: &Lists, lent: usize) -> Result<Street, Refusal>
+        ensures { result ≡ built street.now lent }
     {
-        let verdict = checks::judged(cycle, reds, distances, outbound, inbound, lent);
-        let mut out = [0u32; Street::MAX_SIGNALS];
-        let mut back = [0u32; Street::MAX_SIGNALS];
-        let mut held = [0u32; Street::MAX_SIGNALS];
-        let mut signals: usize = 0;
-        let mut ticks: u32 = 0;
-        let mut rounded: u32 = 0;
-        if let Verdict::Passed = verdict {
-            rounded = Road::fill(distances, outbound, inbound, &mut out, &mut back);
-            copied(reds, &mut held);
-            signals = distances.len();
-            ticks = cycle;
-        }
-        Built {
-            verdict,
-            street: Street {
-                road: Road {
-                    signals,
-                    outbound: out,
-                    inbound: back,
-                    rounded,
-                },
-                cycle: ticks,
-                reds: held,
-            },
-        }
+        checks::judged(street, lent)?;
+        Ok(Street {
+            road: Road::new(street.distances, street.outbound, street.inbound),
+            cycle: street.cycle,
+            reds: padded(street.reds),
+        })
     }
 }
 

@@ -3,49 +3,39 @@
 -- no candidate. Assumes nothing.
 use Prim.Native.Nat.{ℕ, zero, suc, ◌+◌, ◌-◌, ◌*◌, ◌≤◌, ◌<◌}
 use mathlib.Core.Path.{◌≡◌, refl, sym, ap, ap₂, ◌∙◌, subst}
-use mathlib.Core.Bool.{Bool, true, false, cond}
+use mathlib.Core.Bool.{cond}
 use mathlib.Core.List.{List}
 use native.Mathlib.Omega.{arith}
 use native.Mathlib.Decide.{dec_lt}
 use lib.IntN.{pos, ◌-ℤ◌}
 use lib.ListN.{get_or}
 use lib.Dec.{ltb}
-use borrow.Author.Tests.{lt-ltb, le-ltb}
+use borrow.Author.Tests.{lt-ltb}
 use Rattle.circle.specs.Man.{man}
 use Rattle.circle.specs.Bands.{Way}
-use Rattle.circle.proofs.Numbers.{man_is, man_turns, min_below, min_more}
-use Rattle.circle.proofs.Stretches.{since, Proper, longest, left, end_at, since_end, from, Best, NoWorse, best_none, best_more, best_passed, best_band}
+use Rattle.circle.proofs.Numbers.{man_is, man_turns}
+use Rattle.circle.proofs.Stretches.{since, Proper, longest, left, end_at, since_end, from, Best, NoWorse, best_more, best_band}
+use Rattle.std.proofs.lemmas.Grind.{common_steps}
 use Rattle.stretches.specs.declared.Band.{Band}
 use Rattle.stretches.specs.Stretches.{band_of}
 use Rattle.stretches.specs.Steps.{Fitting, seen_by, left_by, wider_of}
 
--- the wider of two bands, from the code's tests
-pub wider_other : (a b : Band) → a.width < b.width → b ≡ wider_of a b
+-- the wider of two bands, by how their widths and their starts compare
+wider_other : (a b : Band) → a.width < b.width → b ≡ wider_of a b
 unfolding wider_of
-wider_other a b l = sym (ap (λ t. cond t b (cond (ltb b.width a.width) a (cond (ltb b.start a.start) b a))) (lt-ltb a.width b.width l))
+wider_other a b l = grind (arith, common_steps)
 
-pub wider_best : (a b : Band) → b.width < a.width → a ≡ wider_of a b
+wider_best : (a b : Band) → b.width < a.width → a ≡ wider_of a b
 unfolding wider_of
-wider_best a b l =
-    let le : b.width ≤ a.width = omega arith in
-    sym
-    (ap₂ (λ t u. cond t b (cond u a (cond (ltb b.start a.start) b a))) (le-ltb a.width b.width le) (lt-ltb b.width a.width l))
+wider_best a b l = grind (arith, common_steps)
 
--- of two as wide, the start decides
-wider_start : (a b : Band) (t : Bool) → a.width ≡ b.width → ltb b.start a.start ≡ t → cond t b a ≡ wider_of a b
+wider_sooner : (a b : Band) → b.width ≤ a.width → a.width ≤ b.width → b.start < a.start → b ≡ wider_of a b
 unfolding wider_of
-wider_start a b t same e =
-    let le : b.width ≤ a.width = omega arith in
-    let ge : a.width ≤ b.width = omega arith in
-    sym
-    (ap₂ (λ u v. cond u b (cond v a (cond (ltb b.start a.start) b a))) (le-ltb a.width b.width le) (le-ltb b.width a.width ge)
-    ∙ ap (λ u. cond u b a) e)
+wider_sooner a b le ge l = grind (arith, common_steps)
 
-pub wider_sooner : (a b : Band) → b.width ≤ a.width → a.width ≤ b.width → b.start < a.start → b ≡ wider_of a b
-wider_sooner a b le ge l = wider_start a b true (omega arith) (lt-ltb b.start a.start l)
-
-pub wider_still : (a b : Band) → b.width ≤ a.width → a.width ≤ b.width → a.start ≤ b.start → a ≡ wider_of a b
-wider_still a b le ge l = wider_start a b false (omega arith) (le-ltb b.start a.start l)
+wider_still : (a b : Band) → b.width ≤ a.width → a.width ≤ b.width → a.start ≤ b.start → a ≡ wider_of a b
+unfolding wider_of
+wider_still a b le ge l = grind (arith, common_steps)
 
 -- a band is the best of the stretch from 0 and of those from the candidates below n that have a red
 abbrev pub BestBand : Way → ℕ → Band → Type 0
@@ -73,20 +63,6 @@ best_wider w i a b best below wide starts = go (dec_lt a.width b.width) (dec_lt 
     go (no l) (no m) (yes r) = new (wider_sooner a b (omega arith) (omega arith) r) (omega arith, λ e. omega arith)
     go (no l) (no m) (no r) = old (wider_still a b (omega arith) (omega arith) (omega arith)) (omega arith, λ e. omega arith)
 
--- the least so far, and one more, as the code keeps it
-pub least_lower : (top n : ℕ) (g : ℕ → ℕ) (low new : ℕ) → low ≡ min_below top n g → new ≡ g n → new < low → new ≡ min_below top (n + 1) g
-least_lower top n g low new e f l = omega (arith, min_more top n g)
-
-pub least_still : (top n : ℕ) (g : ℕ → ℕ) (low new : ℕ) → low ≡ min_below top n g → new ≡ g n → low ≤ new → low ≡ min_below top (n + 1) g
-least_still top n g low new e f l = omega (arith, min_more top n g)
-
--- what a red leaves, by whether it has a length
-pub left-none : (h x end red : ℕ) → red ≡ 0 → h ≡ left_by h x end red
-left-none h x end red none = sym (ap (λ t. cond t (h - (2 * red + man h (pos x -ℤ pos end))) h) (le-ltb 0 red (omega arith)))
-
-pub left_some : (h x end red : ℕ) → 0 < red → left_by h x end red ≡ h - (2 * red + man h (pos x -ℤ pos end))
-left_some h x end red some = ap (λ t. cond t (h - (2 * red + man h (pos x -ℤ pos end))) h) (lt-ltb 0 red some)
-
 -- a red has a length in halves where it has one in ticks
 some_halves : (red : ℕ) → ltb 0 red ≡ ltb 0 (2 * red)
 some_halves zero = refl
@@ -112,21 +88,13 @@ module _ (h n : ℕ) (red : ℕ → ℕ) (ends : List ℕ) (ok : Fitting h n red
       since_end w proper_seen x j ∙ ap (λ (e : ℕ). man h (pos x -ℤ pos e)) (end_seen j l) in
       ap₂ (λ t (z : ℕ). cond t (h - (w.length j + z)) h) (some_halves (red j)) (sym is)
 
-  -- before any candidate the best is the stretch from 0
-  pub none_seen : (v : ℕ) → v ≡ longest (seen_by h n red ends) 0 → BestBand (seen_by h n red ends) 0 (record { width = v; start = 0 })
-  none_seen v is = let w = seen_by h n red ends in subst (λ (u : ℕ). Best w 0 u 0) (sym is) (best_none w proper_seen)
-
   -- a signal with a red: the wider of the best before i and of the stretch from the instant at i
-  pub more-seen : (i v : ℕ) (a b : Band) → i < n → BestBand (seen_by h n red ends) i a → v ≡ longest (seen_by h n red ends) (get_or ends i 0) → b ≡ wider_of a (record { width = v; start = get_or ends i 0 }) → BestBand (seen_by h n red ends) (i + 1) b
-  more-seen i v a b l best wide is =
+  pub more-seen : (i width : ℕ) (a b : Band) → i < n → BestBand (seen_by h n red ends) i a → width ≡ longest (seen_by h n red ends) (get_or ends i 0) → b ≡ wider_of a (record { width = width; start = get_or ends i 0 }) → BestBand (seen_by h n red ends) (i + 1) b
+  more-seen i width a b l best wide is =
       let w = seen_by h n red ends in
       let at = sym (end_seen i l) in
       subst (BestBand w (i + 1)) (sym is)
-      (best_wider w i a (record { width = v; start = get_or ends i 0 }) best (ok.each i l) (wide ∙ ap (longest w) at) at)
-
-  -- a signal with none is passed over
-  pub passed_seen : (i : ℕ) (a : Band) → BestBand (seen_by h n red ends) i a → red i ≤ 0 → BestBand (seen_by h n red ends) (i + 1) a
-  passed_seen i a best none = best_passed (seen_by h n red ends) i a.width a.start best (omega arith)
+      (best_wider w i a (record { width = width; start = get_or ends i 0 }) best (ok.each i l) (wide ∙ ap (longest w) at) at)
 
   -- the best of all is the band
   pub best_seen : (b : Band) → BestBand (seen_by h n red ends) n b → b ≡ band_of (seen_by h n red ends)

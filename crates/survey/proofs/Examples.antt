@@ -8,8 +8,9 @@ use mathlib.Core.Bool.{false}
 use Rattle.circle.specs.Over.{first_below, list_below}
 use Rattle.street.specs.Lists.{typed}
 use Rattle.street.specs.Codes.{code_of, place_of}
+use Rattle.street.specs.Verdicts.{verdict_of}
 use Rattle.sheet.specs.Reading.{passing, Reads}
-use Rattle.sheet.specs.declared.Reading.{Reading}
+use Rattle.sheet.specs.Reading.{Reading}
 use Rattle.sheet.proofs.Examples.{sheet_A, text_a, writable_a}
 use Rattle.eighths.specs.Readings.{eighths_of}
 use Rattle.survey.specs.declared.Position.TheVariants.{Chainage, Gap}
@@ -152,7 +153,7 @@ unfoldable pub said_of : List ℕ → List Float → List ℕ
 unfolding lengths_check survey_checks row_count_check row_check running first_below list_below eighths_of of_bits
 said_of kinds positions =
     let r = lists_reading 100 kinds positions (none ∷ ten ∷ []) (none ∷ ten ∷ []) (40 ∷ 50 ∷ []) in
-    code_of r.verdict ∷ place_of r.verdict ∷ []
+    code_of (verdict_of r) ∷ place_of (verdict_of r) ∷ []
 
 pub kinds_and_lengths : said_of (0 ∷ 2 ∷ []) (none ∷ thirty ∷ []) ++ said_of (4294967295 ∷ 2 ∷ []) (none ∷ thirty ∷ []) ++ said_of (0 ∷ []) (none ∷ thirty ∷ []) ++ said_of (0 ∷ 1 ∷ []) (none ∷ thirty ∷ nan ∷ []) ≡ 12 ∷ 2 ∷ 12 ∷ 1 ∷ 2 ∷ 0 ∷ 2 ∷ 0 ∷ []
 unfolding said_of

@@ -1,4 +1,5 @@
 pub mod RowLaws
+pub mod Filled
 pub mod TypingLaws
 pub mod PlanLaws
 pub mod Unique

@@ -1,26 +1,24 @@
 -- A survey's rows, and which of them are bad (02, 2026-04). Row `row j` is number j + 1; distances and speeds are counted in eighths of a metre, and of a metre a second.
-use Rattle.std.specs.Prelude.{ℕ, zero, suc, ◌+◌, ◌*◌, Bool, true, false, ltb, eqb, Float}
+use Rattle.std.specs.Prelude.{ℕ, zero, suc, ◌+◌, ◌*◌, Bool, true, false, ltb, eqb, Float, Option, Some, None}
 use Rattle.circle.specs.Over.{◌and◌, ◌or◌, first_below}
 use Rattle.road.specs.Limits.{min_signals, max_signals}
 use Rattle.street.specs.Checks.{unless, within, fault_at}
 use Rattle.street.specs.declared.Code.TheVariants.{Count, Survey}
-use Rattle.street.specs.declared.Verdict.{Verdict}
+use Rattle.street.specs.Verdicts.{Verdict}
 use Rattle.eighths.specs.Readings.{max_reading, eighths_of}
-use Rattle.eighths.specs.declared.Eighths.{Eighths}
-use Rattle.eighths.specs.declared.Eighths.TheVariants.{Whole, Outside}
 use Rattle.survey.specs.declared.Position.{Position}
 use Rattle.survey.specs.declared.Position.TheVariants.{Chainage, Gap}
 use Rattle.survey.specs.declared.Row.{Row}
 
 -- how many eighths a float is; a float outside the rules makes its row bad, and 0 stands for it
-abbrev pub counted : Eighths → ℕ
-counted (Whole k) = k
-counted Outside = 0
+abbrev pub counted : Option ℕ → ℕ
+counted (Some k) = k
+counted None = 0
 
 -- whether it is outside them
-abbrev pub outside : Eighths → Bool
-outside (Whole k) = false
-outside Outside = true
+abbrev pub outside : Option ℕ → Bool
+outside (Some k) = false
+outside None = true
 
 -- the float of a position, of either kind
 abbrev pub metres : Position → Float

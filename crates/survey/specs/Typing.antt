@@ -5,11 +5,8 @@ use Rattle.circle.specs.Over.{◌and◌, list_below}
 use Rattle.street.specs.Lists.{Lists, typed}
 use Rattle.street.specs.Checks.{unless, first_fault}
 use Rattle.street.specs.declared.Code.TheVariants.{Count}
-use Rattle.street.specs.declared.Refusal.{Refusal}
-use Rattle.street.specs.declared.Verdict.{Verdict}
-use Rattle.street.specs.declared.Verdict.TheVariants.{Passed, Refused}
-use Rattle.sheet.specs.Reading.{passing, no_sheet}
-use Rattle.sheet.specs.declared.Reading.{Reading}
+use Rattle.street.specs.Verdicts.{Verdict, answered}
+use Rattle.sheet.specs.Reading.{Reading, sheet_of}
 use Rattle.eighths.specs.Readings.{eighths_of}
 use Rattle.survey.specs.declared.Position.{Position}
 use Rattle.survey.specs.declared.Position.TheVariants.{Chainage, Gap}
@@ -33,20 +30,11 @@ typed_rows cycle n row =
 unfoldable pub survey_checks : ℕ → (ℕ → Row) → Verdict
 survey_checks n row = first_fault (row_count_check n ∷ row_check n row ∷ [])
 
--- a refusal, beside which every number is 0
-abbrev pub no_reading : Refusal → Reading
-no_reading f = record { verdict = Refused f; sheet = no_sheet }
-
--- what rows are read as by the verdict of their checks
-abbrev pub read_as : Verdict → Lists → Reading
-read_as Passed l = passing l
-read_as (Refused f) l = no_reading f
-
--- the reading of n rows
+-- the reading of n rows: their refusal, or the sheet on which their street is typed
 abbrev pub survey_reading : ℕ → ℕ → (ℕ → Row) → Reading
-survey_reading cycle n row = read_as (survey_checks n row) (typed_rows cycle n row)
+survey_reading cycle n row = answered (survey_checks n row) (sheet_of (typed_rows cycle n row))
 
--- the rows of an array; there is none past its end, and one that is bad stands for it
+-- the rows of a list; there is none past its end, and one that is bad stands for it
 abbrev pub in_rows : List Row → ℕ → Row
 in_rows rows j = get_or rows j (record { position = Chainage nan; outbound = nan; inbound = nan; red = 0 })
 
@@ -74,7 +62,7 @@ abbrev pub lists_reading : ℕ → List ℕ → List Float → List Float → Li
 lists_reading cycle kinds positions outbound inbound reds =
     let row = in_lists kinds positions outbound inbound reds in
     let n = length reds in
-    read_as
+    answered
     (first_fault
     (lengths_check n (length kinds) (length positions) (length outbound) (length inbound) ∷ survey_checks n row ∷ []))
-    (typed_rows cycle n row)
+    (sheet_of (typed_rows cycle n row))

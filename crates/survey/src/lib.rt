@@ -2,33 +2,30 @@
 // 2026-04).
 #![tactic(auto)]
 
-ghost use Rattle.std.specs.Prelude.{◌≡◌, ℕ, ◌≤◌, ◌<◌, length};
+ghost use Rattle.std.specs.Prelude.{◌≡◌, ℕ, ◌+◌, ◌≤◌, ◌<◌, length, IfSome};
 ghost use Rattle.std.specs.Float.{binary64};
 ghost use Rattle.std.specs.Float.Ieee.{of_bits};
 ghost use Rattle.road.specs.Limits.{max_signals};
-ghost use Rattle.road.specs.Steps.{Zeros};
-ghost use Rattle.sheet.specs.Reading.{lists_of};
-ghost use Rattle.sheet.specs.Steps.Held.{Held};
-ghost use Rattle.plans.specs.Requests.{Requested};
 ghost use Rattle.survey.specs.Rows.{row_count_check};
-ghost use Rattle.survey.specs.Typing.{thousandths, no_reading, survey_reading, in_rows, position_of, row_of, in_lists, lengths_check, lists_reading};
+ghost use Rattle.survey.specs.Typing.{thousandths, survey_reading, in_rows, position_of, row_of, in_lists, lengths_check, lists_reading};
+ghost use Rattle.street.specs.declared.Code.TheVariants.{Survey};
 ghost use Rattle.survey.specs.Plans.{Surveyed};
-ghost use Rattle.survey.specs.Steps.{max_eighths, placed_at, judged_as, standing, Fills};
+ghost use Rattle.survey.specs.Steps.{max_eighths, Small, placed_at, judged_as, standing, rows_reading};
 
-use eighths::{Eighths, from_bits, in_eighths};
-use plans::{Answer, Request};
-use sheet::{Reading, Sheet};
-use street::{Code, Refusal, Street, Verdict, refused};
+use eighths::{from_bits, in_eighths};
+use plans::{Plan, Request};
+use sheet::Sheet;
+use street::{Code, Refusal, Street, refused};
 
 // Where a row's signal stands, in metres: from the origin, or from the signal of the row before.
-#[derive(Clone, Copy)]
+#[derive(Clone, Copy, Debug, PartialEq)]
 pub enum Position {
     Chainage(f64),
     Gap(f64),
 }
 
 // A row: its signal's position, the two speeds of the link that ends there, in metres a second, and the red that the crew typed, in ticks.
-#[derive(Clone, Copy)]
+#[derive(Clone, Copy, Debug, PartialEq)]
 pub struct Row {
     pub position: Position,
     pub outbound: f64,
@@ -45,7 +42,7 @@ impl Position {
         match kind {
             0 => Position::Chainage(x),
             1 => Position::Gap(x),
-            _ => Position::Chainage(0.0 / 0.0),
+            _ => Position::Chainage(f64::NAN),
         }
     }
 }
@@ -60,9 +57,8 @@ impl Row {
     pub fn new(kind: u32, x: f64, outbound: f64, inbound: f64, red: u32) -> Row
         ensures { result ≡ row_of kind x outbound inbound red }
     {
-        let position = Position::of_kind(kind, x);
         Row {
-            position,
+            position: Position::of_kind(kind, x),
             outbound,
             inbound,
             red,
@@ -88,187 +84,145 @@ fn limits()
     ensures { (Row.MAX_EIGHTHS ≡ max_eighths) × (Row.EIGHTH ≡ thousandths 1) }
 {}
 
-// What a row comes to, in eighths: the running distance of its signal, and its outbound and inbound speed; or it is bad.
-#[derive(Clone, Copy)]
-enum Judged {
-    Good(u32, u32, u32),
-    Bad,
+// A number of eighths, in thousandths: metres become millimetres, and metres a second millimetres a second.
+fn thousandths(eighths: u32) -> u32
+    requires { eighths ≤ max_eighths }
+    ensures { result ≡ thousandths eighths }
+{
+    Row::EIGHTH * eighths
+}
+
+// What a row comes to, in eighths: the running distance of its signal, and the speeds of the link that ends there.
+#[derive(Clone, Copy, Debug, PartialEq, Eq)]
+struct Judged {
+    distance: u32,
+    outbound: u32,
+    inbound: u32,
 }
 
 // The running distance at a position, from the one before it.
-fn placed(before: u32, position: Position) -> Eighths
+#[tactic(auto, using(eighths::proofs::Meaning::eighths_small), unfolding(crate::specs::Steps::placed_at))]
+fn placed(before: u32, position: Position) -> Option<u32>
     requires { before ≤ max_eighths }
-    ensures { result ≡ placed_at before position }
+    ensures value { result ≡ placed_at before position }
+    ensures near { IfSome result (λ d. d ≤ max_eighths) }
 {
     match position {
         Position::Chainage(x) => in_eighths(x),
         Position::Gap(x) => {
-            let Eighths::Whole(gap) = in_eighths(x) else {
-                return Eighths::Outside;
-            };
-            let distance = before + gap;
+            let distance = before + in_eighths(x)?;
             if distance > Row::MAX_EIGHTHS {
-                return Eighths::Outside;
+                return None;
             }
-            Eighths::Whole(distance)
+            Some(distance)
         }
     }
 }
 
-// A row after one whose running distance is known.
-fn judge(before: u32, row: Row) -> Judged
+// A row after one whose running distance is known, unless it is bad.
+#[tactic(auto, using(eighths::proofs::Meaning::eighths_small), unfolding(crate::specs::Steps::judged_as))]
+fn judge(before: u32, row: Row) -> Option<Judged>
     requires { before ≤ max_eighths }
-    ensures { result ≡ judged_as before row }
+    ensures value { result ≡ judged_as before row }
+    ensures small { IfSome result Small }
 {
-    let position = row.position;
-    let Eighths::Whole(distance) = placed(before, position) else {
-        return Judged::Bad;
-    };
-    let Eighths::Whole(outbound) = in_eighths(row.outbound) else {
-        return Judged::Bad;
-    };
-    let Eighths::Whole(inbound) = in_eighths(row.inbound) else {
-        return Judged::Bad;
-    };
-    Judged::Good(distance, outbound, inbound)
+    Some(Judged {
+        distance: placed(before, row.position)?,
+        outbound: in_eighths(row.outbound)?,
+        inbound: in_eighths(row.inbound)?,
+    })
 }
 
 // The first row: a gap counts from the origin, and no link ends here, so that both speeds must be zero.
-fn first(row: Row) -> Judged
-    ensures { result ≡ standing (judged_as 0 row) }
+fn first(row: Row) -> Option<Judged>
+    ensures value { result ≡ standing (judged_as 0 row) }
+    ensures small { IfSome result Small }
 {
-    let Judged::Good(distance, outbound, inbound) = judge(0, row) else {
-        return Judged::Bad;
-    };
-    if outbound > 0 {
-        return Judged::Bad;
+    let read = judge(0, row)?;
+    if read.outbound > 0 || read.inbound > 0 {
+        return None;
     }
-    if inbound > 0 {
-        return Judged::Bad;
-    }
-    Judged::Good(distance, outbound, inbound)
+    Some(read)
 }
 
-// The rows' numbers, each column into an array that comes in all 0, up to the first bad row.
-fn fill(
-    rows: [Row; Street::MAX_SIGNALS],
-    count: usize,
-    reds: &mut [u32; Street::MAX_SIGNALS],
-    distances: &mut [u32; Street::MAX_SIGNALS],
-    outbound: &mut [u32; Street::MAX_SIGNALS],
-    inbound: &mut [u32; Street::MAX_SIGNALS],
-) -> Verdict
-    requires { (1 ≤ count) × (count ≤ max_signals) × Zeros reds.old × Zeros distances.old × Zeros outbound.old × Zeros inbound.old }
-    ensures { Fills count (in_rows rows) result reds.new distances.new outbound.new inbound.new }
+// The refusal of a bad row, by its index.
+fn bad(index: usize) -> Refusal
+    requires { index < max_signals }
+    ensures { result ≡ record { code = Survey; place = index + 1 } }
 {
-    let row = rows[0];
-    let Judged::Good(start, none, nothing) = first(row) else {
-        return refused(Code::Survey, 1);
-    };
-    reds[0] = row.red;
-    distances[0] = Row::EIGHTH * start;
-    let mut before = start;
-    let mut link: usize = 0;
-    while link + 1 < count {
-        let i = link + 1;
-        let row = rows[i];
-        let Judged::Good(distance, out, back) = judge(before, row) else {
-            return refused(Code::Survey, (i + 1) as u32);
-        };
-        reds[i] = row.red;
-        distances[i] = Row::EIGHTH * distance;
-        outbound[link] = Row::EIGHTH * out;
-        inbound[link] = Row::EIGHTH * back;
-        before = distance;
-        link = i;
+    Refusal {
+        code: Code::Survey,
+        place: (index + 1) as u32,
     }
-    Verdict::Passed
+}
+
+// The numbers of rows, of which there are as many as there may be; or the refusal of the first bad one.
+fn typed(cycle: u32, rows: &[Row]) -> Result<Sheet, Refusal>
+    requires { (1 ≤ length rows.now) × (length rows.now ≤ max_signals) }
+    ensures { result ≡ rows_reading cycle (length rows.now) (in_rows rows.now) }
+{
+    let mut reds = [0; Street::MAX_SIGNALS];
+    let mut distances = [0; Street::MAX_SIGNALS];
+    let mut outbound = [0; Street::MAX_SIGNALS];
+    let mut inbound = [0; Street::MAX_SIGNALS];
+    let start = first(rows[0]).ok_or(bad(0))?;
+    reds[0] = rows[0].red;
+    distances[0] = thousandths(start.distance);
+    let mut before = start.distance;
+    for link in 0..rows.len() - 1 {
+        let i = link + 1;
+        let read = judge(before, rows[i]).ok_or(bad(i))?;
+        reds[i] = rows[i].red;
+        distances[i] = thousandths(read.distance);
+        outbound[link] = thousandths(read.outbound);
+        inbound[link] = thousandths(read.inbound);
+        before = read.distance;
+    }
+    Ok(Sheet {
+        signals: rows.len(),
+        cycle,
+        reds,
+        distances,
+        outbound,
+        inbound,
+    })
 }
 
 // How many rows there may be.
-fn row_count(count: usize) -> Verdict
+#[tactic(auto, unfolding(crate::specs::Rows::row_count_check))]
+fn row_count(count: usize) -> Result<(), Refusal>
     ensures { result ≡ row_count_check count }
 {
-    if count < Street::MIN_SIGNALS {
+    if count < Street::MIN_SIGNALS || count > Street::MAX_SIGNALS {
         return refused(Code::Count, 0);
     }
-    if count > Street::MAX_SIGNALS {
-        return refused(Code::Count, 0);
-    }
-    Verdict::Passed
+    Ok(())
 }
 
-// A reading that was refused: every number beside the verdict is 0.
-fn no_reading(refusal: Refusal) -> Reading
-    ensures { result ≡ no_reading refusal }
-{
-    Reading {
-        verdict: Verdict::Refused(refusal),
-        sheet: Sheet {
-            signals: 0,
-            cycle: 0,
-            reds: [0; Street::MAX_SIGNALS],
-            distances: [0; Street::MAX_SIGNALS],
-            outbound: [0; Street::MAX_SIGNALS],
-            inbound: [0; Street::MAX_SIGNALS],
-        },
-    }
-}
-
-// The library's call: the numbers of a street from the first rows, as they would be typed by hand, or the refusal of a wrong count or of the
+// The library's call: the numbers of a street from its rows, as they would be typed by hand, or the refusal of a wrong count or of the
 // first bad row.
-pub fn read(cycle: u32, rows: [Row; Street::MAX_SIGNALS], count: usize) -> Reading
-    ensures { result ≡ survey_reading cycle count (in_rows rows) }
+pub fn read(cycle: u32, rows: &[Row]) -> Result<Sheet, Refusal>
+    ensures { result ≡ survey_reading cycle (length rows.now) (in_rows rows.now) }
 {
-    let counted = row_count(count);
-    if let Verdict::Refused(f) = counted {
-        return no_reading(f);
-    }
-    let mut reds = [0u32; Street::MAX_SIGNALS];
-    let mut distances = [0u32; Street::MAX_SIGNALS];
-    let mut outbound = [0u32; Street::MAX_SIGNALS];
-    let mut inbound = [0u32; Street::MAX_SIGNALS];
-    let verdict = fill(
-        rows,
-        count,
-        &mut reds,
-        &mut distances,
-        &mut outbound,
-        &mut inbound,
-    );
-    match verdict {
-        Verdict::Refused(f) => no_reading(f),
-        Verdict::Passed => Reading {
-            verdict: Verdict::Passed,
-            sheet: Sheet {
-                signals: count,
-                cycle,
-                reds,
-                distances,
-                outbound,
-                inbound,
-            },
-        },
-    }
+    row_count(rows.len())?;
+    typed(cycle, rows)
 }
 
 // Whether four lists are as long as that of the reds.
-fn lengths(count: usize, kinds: usize, positions: usize, outbound: usize, inbound: usize) -> Verdict
+#[tactic(auto, unfolding(crate::specs::Typing::lengths_check))]
+fn lengths(
+    count: usize,
+    kinds: usize,
+    positions: usize,
+    outbound: usize,
+    inbound: usize,
+) -> Result<(), Refusal>
     ensures { result ≡ lengths_check count kinds positions outbound inbound }
 {
-    if kinds != count {
+    if kinds != count || positions != count || outbound != count || inbound != count {
         return refused(Code::Count, 0);
     }
-    if positions != count {
-        return refused(Code::Count, 0);
-    }
-    if outbound != count {
-        return refused(Code::Count, 0);
-    }
-    if inbound != count {
-        return refused(Code::Count, 0);
-    }
-    Verdict::Passed
+    Ok(())
 }
 
 // The rows that stand in five lists of one length, at most 32.
@@ -280,13 +234,12 @@ fn gathered(
     reds: &[u32],
 ) -> [Row; Street::MAX_SIGNALS]
     requires { (length reds.now ≤ max_signals) × (length kinds.now ≡ length reds.now) × (length positions.now ≡ length reds.now) × (length outbound.now ≡ length reds.now) × (length inbound.now ≡ length reds.now) }
-    ensures { (j : ℕ) → j < length reds.now → in_rows result j ≡ in_lists kinds.now positions.now outbound.now inbound.now reds.now j }
+    ensures room { length result ≡ max_signals }
+    ensures rows { (j : ℕ) → j < length reds.now → in_rows result j ≡ in_lists kinds.now positions.now outbound.now inbound.now reds.now j }
 {
     let mut rows = [Row::new(0, 0.0, 0.0, 0.0, 0); Street::MAX_SIGNALS];
-    let mut i: usize = 0;
-    while i < reds.len() {
+    for i in 0..reds.len() {
         rows[i] = Row::new(kinds[i], positions[i], outbound[i], inbound[i], reds[i]);
-        i += 1;
     }
     rows
 }
@@ -299,48 +252,20 @@ pub fn read_lists(
     outbound: &[f64],
     inbound: &[f64],
     reds: &[u32],
-) -> Reading
+) -> Result<Sheet, Refusal>
     ensures { result ≡ lists_reading cycle kinds.now positions.now outbound.now inbound.now reds.now }
 {
     let count = reds.len();
-    let even = lengths(
+    lengths(
         count,
         kinds.len(),
         positions.len(),
         outbound.len(),
         inbound.len(),
-    );
-    if let Verdict::Refused(f) = even {
-        return no_reading(f);
-    }
-    let counted = row_count(count);
-    if let Verdict::Refused(f) = counted {
-        return no_reading(f);
-    }
+    )?;
+    row_count(count)?;
     let rows = gathered(kinds, positions, outbound, inbound, reds);
-    read(cycle, rows, count)
-}
-
-// The plan of a request on the street of a reading that passed.
-fn planned(s: Sheet, request: Request, offsets: &mut [u32]) -> Answer
-    requires { Held s }
-    ensures { Requested request (lists_of s) offsets.old offsets.new result }
-{
-    let n = s.signals;
-    let links = n - 1;
-    let reds = s.reds;
-    let distances = s.distances;
-    let outbound = s.outbound;
-    let inbound = s.inbound;
-    plans::plan_for(
-        request,
-        s.cycle,
-        &reds[..n],
-        &distances[..n],
-        &outbound[..links],
-        &inbound[..links],
-        offsets,
-    )
+    typed(cycle, &rows[..count])
 }
 
 // The plan of a request on the rows' street: the refusal that the rows earn, which leaves the lent list as it was, or else the library's own
@@ -348,19 +273,11 @@ fn planned(s: Sheet, request: Request, offsets: &mut [u32]) -> Answer
 pub fn plan_for(
     request: Request,
     cycle: u32,
-    rows: [Row; Street::MAX_SIGNALS],
-    count: usize,
+    rows: &[Row],
     offsets: &mut [u32],
-) -> Answer
-    ensures { Surveyed request cycle count (in_rows rows) offsets.old offsets.new result }
+) -> Result<Plan, Refusal>
+    ensures { Surveyed request cycle (length rows.now) (in_rows rows.now) offsets.old offsets.new result }
 {
-    let reading = read(cycle, rows, count);
-    let verdict = reading.verdict;
-    match verdict {
-        Verdict::Refused(f) => Answer::Refused(f),
-        Verdict::Passed => {
-            let s = reading.sheet;
-            planned(s, request, offsets)
-        }
-    }
+    let sheet = read(cycle, rows)?;
+    plans::plan_for(request, &sheet.lists(), offsets)
 }

@@ -1,5 +1,6 @@
 -- Laws of volumes. A platoon is the least number of halves that is enough for its volume, so that a volume fits a width exactly when V·C·h is at most 18,000 times the width. Of all volumes that fit there is
 -- just one largest, and each of the others is below it. And what a passed check tells: the numbers are so small that their product is too. Assumes nothing.
+use Rattle.std.specs.Prelude.{Ok}
 use Prim.Native.Nat.{ℕ, ◌+◌, ◌-◌, ◌*◌, ◌/◌, ◌≤◌, ◌<◌}
 use mathlib.Core.Path.{◌≡◌}
 use native.Mathlib.Omega.{arith}
@@ -10,7 +11,6 @@ use borrow.Author.Tests.{leb-true}
 use Rattle.street.specs.Limits.{max_cycle, max_volume, min_headway, max_headway}
 use Rattle.street.specs.Checks.{unless_at, within}
 use Rattle.street.specs.declared.Code.TheVariants.{Volume}
-use Rattle.street.specs.declared.Verdict.TheVariants.{Passed}
 use Rattle.street.proofs.CheckLaws.{passes_at, within_range}
 use Rattle.street.proofs.Passed.{first_passed, rest_passed}
 use Rattle.traffic.specs.Volumes.{half_hour, platoon_of, RoundedUp, Largest}
@@ -80,7 +80,7 @@ pub record Judged (out back h : ℕ) : Type 0 where
   pub inbound : back ≤ max_volume
   pub headway : h ≤ max_headway
 
-pub judged : (out back h : ℕ) → volume_check out back h ≡ Passed → Judged out back h
+pub judged : (out back h : ℕ) → volume_check out back h ≡ (Ok tt) → Judged out back h
 unfolding volume_check
 judged out back h e =
     let first = unless_at 1 (leb out max_volume) Volume in
@@ -91,7 +91,7 @@ judged out back h e =
     record {
       outbound = leb-true out max_volume (passes_at 1 _ Volume (first_passed first _ e));
       inbound = leb-true back max_volume (passes_at 2 _ Volume (first_passed second _ rest));
-      headway = (within_range min_headway max_headway h (passes_at 3 _ Volume (first_passed third Passed last))).high;
+      headway = (within_range min_headway max_headway h (passes_at 3 _ Volume (first_passed third (Ok tt) last))).high;
     }
 
 -- the product of a volume, a cycle and a headway that were judged

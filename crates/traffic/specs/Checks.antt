@@ -3,7 +3,7 @@ use Rattle.std.specs.Prelude.{ℕ, [], ◌∷◌, leb}
 use Rattle.street.specs.Limits.{max_volume, min_headway, max_headway}
 use Rattle.street.specs.Checks.{unless_at, first_fault, within}
 use Rattle.street.specs.declared.Code.TheVariants.{Volume}
-use Rattle.street.specs.declared.Verdict.{Verdict}
+use Rattle.street.specs.Verdicts.{Verdict}
 
 -- 11 VOLUME: the outbound volume is judged first, at place 1, the inbound one next, at 2, and the headway last, at 3
 unfoldable pub volume_check : ℕ → ℕ → ℕ → Verdict

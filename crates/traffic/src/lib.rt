@@ -7,28 +7,28 @@ ghost use Rattle.street.specs.Limits.{max_cycle, max_volume, max_headway};
 ghost use Rattle.traffic.specs.Volumes.{platoon_of, Largest};
 ghost use Rattle.traffic.specs.Checks.{volume_check};
 
-use street::{Code, Street, Verdict};
+use street::{Code, Refusal, Street, refused};
 
 // Half an hour, in ticks.
 const HALF_HOUR: u64 = 18_000;
 
 // Neither volume is too large, and the headway is in its range; the outbound volume is judged first.
-pub fn check(outbound: u32, inbound: u32, headway: u32) -> Verdict
+pub fn check(outbound: u32, inbound: u32, headway: u32) -> Result<(), Refusal>
     ensures { result ≡ volume_check outbound inbound headway }
 {
     if Street::MAX_VOLUME < outbound {
-        return street::refused(Code::Volume, 1);
+        return refused(Code::Volume, 1);
     }
     if Street::MAX_VOLUME < inbound {
-        return street::refused(Code::Volume, 2);
+        return refused(Code::Volume, 2);
     }
     if headway < Street::MIN_HEADWAY {
-        return street::refused(Code::Volume, 3);
+        return refused(Code::Volume, 3);
     }
     if Street::MAX_HEADWAY < headway {
-        return street::refused(Code::Volume, 3);
+        return refused(Code::Volume, 3);
     }
-    Verdict::Passed
+    Ok(())
 }
 
 // The platoon of a volume that was judged: its vehicles of one cycle, one headway for each, rounded up to a half.

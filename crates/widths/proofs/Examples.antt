@@ -7,7 +7,7 @@ use Rattle.circle.specs.Moved.{g, in_range, other_width, found_width, platoon_wi
 use Rattle.circle.proofs.Examples.Method.{three}
 use Rattle.circle.proofs.Examples.Moved.{school}
 use Rattle.street.specs.Codes.{code_of, place_of}
-use Rattle.street.specs.declared.Verdict.{Verdict}
+use Rattle.street.specs.Verdicts.{Verdict}
 use Rattle.widths.specs.Moved.{platoon_shift, shift_of, outbound_width, inbound_width}
 use Rattle.widths.specs.Steps.{portion_of}
 use Rattle.traffic.specs.Checks.{volume_check}

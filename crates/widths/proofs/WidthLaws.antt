@@ -1,5 +1,6 @@
 -- Laws of widths and requests: the search's B is circle's, raised; no width that a request comes to is above g; the platoon rule by the two lengths; and check, shift and
 -- widths go by the signals alone. Assumes nothing.
+use Rattle.std.specs.Prelude.{Ok}
 use Prim.Native.Nat.{ℕ, ◌-◌, ◌*◌, ◌≤◌, ◌<◌, ◌^◌, ◌+◌}
 use mathlib.Core.Path.{◌≡◌, sym, ap, refl, ap₂, ◌∙◌}
 use mathlib.Core.Bool.{Bool, true, false, cond}
@@ -15,11 +16,8 @@ use Rattle.street.specs.Limits.{max_cycle, max_platoon}
 use Rattle.street.specs.Checks.{unless, or_next}
 use Rattle.street.specs.Steps.{max_halves, Sound}
 use Rattle.street.specs.declared.Code.TheVariants.{Width, Platoon}
-use Rattle.street.specs.declared.Verdict.{Verdict}
-use Rattle.street.specs.declared.Verdict.TheVariants.{Passed}
 use Rattle.street.proofs.CheckLaws.{passes_at, passes, last_check}
 use Rattle.street.proofs.Passed.{first_passed, rest_passed}
-use Rattle.street.specs.declared.Verdict.TheVariants as verdict
 use Rattle.search.proofs.Leading.{fit_sound}
 use Rattle.traffic.specs.Volumes.{platoon_of}
 use Rattle.traffic.specs.Checks.{volume_check}
@@ -49,7 +47,7 @@ product_fits cycle raised long longest small short =
     omega arith
 
 -- no width that passes its check is above g, which is at most the cycle
-pub range_le : (s : Timed) (w : ℕ) → Fit s → width_check s w ≡ Passed → w ≤ or_zero (g s)
+pub range_le : (s : Timed) (w : ℕ) → Fit s → width_check s w ≡ (Ok tt) → w ≤ or_zero (g s)
 unfolding width_check
 range_le s w fit e =
     omega (arith, asked_green s fit w (asked s fit w (passes (in_range s w) Width e)), ap or_zero (g_is s fit))
@@ -58,17 +56,17 @@ pub widest_le : (s : Timed) → Fit s → or_zero (g s) ≤ halves s
 widest_le s fit = omega (arith, green_le s fit, ap or_zero (g_is s fit))
 
 -- platoons that passed are short enough
-short_enough : (place P : ℕ) → length_check place P ≡ verdict.Passed → P ≤ max_platoon
+short_enough : (place P : ℕ) → length_check place P ≡ (Ok tt) → P ≤ max_platoon
 short_enough place P e = leb-true P max_platoon (passes_at place (leb P max_platoon) Platoon e)
 
-pub platoons_short : (P Q : ℕ) → platoon_check P Q ≡ verdict.Passed → (P ≤ max_platoon) × (Q ≤ max_platoon)
+pub platoons_short : (P Q : ℕ) → platoon_check P Q ≡ (Ok tt) → (P ≤ max_platoon) × (Q ≤ max_platoon)
 unfolding platoon_check
 platoons_short P Q e =
-    let rest = rest_passed (length_check 1 P) (or_next (length_check 2 Q) verdict.Passed) e in
-    (short_enough 1 P (first_passed (length_check 1 P) (or_next (length_check 2 Q) verdict.Passed) e), short_enough 2 Q (first_passed (length_check 2 Q) verdict.Passed rest))
+    let rest = rest_passed (length_check 1 P) (or_next (length_check 2 Q) (Ok tt)) e in
+    (short_enough 1 P (first_passed (length_check 1 P) (or_next (length_check 2 Q) (Ok tt)) e), short_enough 2 Q (first_passed (length_check 2 Q) (Ok tt) rest))
 
 -- volumes that passed are small enough, and so is their headway; their platoons are short enough
-pub traffic_passed : (C out back h : ℕ) → traffic_check C out back h ≡ verdict.Passed → Judged out back h × (platoon_of C h out ≤ max_platoon) × (platoon_of C h back ≤ max_platoon)
+pub traffic_passed : (C out back h : ℕ) → traffic_check C out back h ≡ (Ok tt) → Judged out back h × (platoon_of C h out ≤ max_platoon) × (platoon_of C h back ≤ max_platoon)
 unfolding traffic_check
 traffic_passed C out back h e =
     let rest = rest_passed (volume_check out back h) _ e in
@@ -76,11 +74,9 @@ traffic_passed C out back h e =
     (judged out back h (first_passed (volume_check out back h) _ e), there, home)
 
 -- the volumes' verdict, and where they passed that of their platoons
-pub traffic_is : (C out back h : ℕ) (v : Verdict) → volume_check out back h ≡ v → or_next v (platoon_check (platoon_of C h out) (platoon_of C h back)) ≡ traffic_check C out back h
+pub traffic_is : (C out back h : ℕ) → or_next (volume_check out back h) (platoon_check (platoon_of C h out) (platoon_of C h back)) ≡ traffic_check C out back h
 unfolding traffic_check
-traffic_is C out back h v e =
-    let long = platoon_check (platoon_of C h out) (platoon_of C h back) in
-    ap (λ x. or_next x long) (sym e) ∙ ap (or_next (volume_check out back h)) (sym (last_check long))
+traffic_is C out back h = ap (or_next (volume_check out back h)) (sym (last_check (platoon_check (platoon_of C h out) (platoon_of C h back))))
 
 -- the platoon rule by the two lengths
 pub favours_neither : (s : Timed) (P Q : ℕ) → P ≡ Q → Unmoved ≡ platoon_shift s P Q
@@ -105,7 +101,7 @@ platoon_shift_le s P Q = go (eqb P Q) (ltb Q P)
     go false true = platoon_le s P (P + Q)
     go false false = platoon_le s Q (P + Q)
 
-pub shift_small : (s : Timed) (asked : Request) → Sound s → request_check asked s ≡ verdict.Passed → shift_width (shift_of asked s) ≤ max_halves
+pub shift_small : (s : Timed) (asked : Request) → Sound s → request_check asked s ≡ (Ok tt) → shift_width (shift_of asked s) ≤ max_halves
 shift_small s request.Equal ok e = omega arith
 shift_small s (request.Outbound w) ok e =
     let fit = fit_sound s ok in omega (arith, range_le s w fit e, widest_le s fit, ok.longest)

@@ -1,12 +1,11 @@
 -- The check of what a request adds to a plan's lists (01, 'Codes, in order of checking').
-use Rattle.std.specs.Prelude.{ℕ, [], ◌∷◌, leb}
+use Rattle.std.specs.Prelude.{ℕ, [], ◌∷◌, leb, Ok}
 use Rattle.circle.specs.Method.{Timed}
 use Rattle.circle.specs.Moved.{in_range}
 use Rattle.street.specs.Limits.{max_platoon}
 use Rattle.street.specs.Checks.{unless_at, unless, first_fault}
 use Rattle.street.specs.declared.Code.TheVariants.{Platoon, Width}
-use Rattle.street.specs.declared.Verdict.{Verdict}
-use Rattle.street.specs.declared.Verdict.TheVariants.{Passed}
+use Rattle.street.specs.Verdicts.{Verdict}
 use Rattle.traffic.specs.Volumes.{platoon_of}
 use Rattle.traffic.specs.Checks.{volume_check}
 use Rattle.widths.specs.declared.Request.{Request}
@@ -30,7 +29,7 @@ width_check s w = unless (in_range s w) Width
 
 -- the check of what a request adds to a plan's lists
 abbrev pub request_check : Request → Timed → Verdict
-request_check Equal s = Passed
+request_check Equal s = (Ok tt)
 request_check (Outbound w) s = width_check s w
 request_check (Inbound w) s = width_check s w
 request_check (Platoons P Q) s = platoon_check P Q

@@ -1,5 +1,6 @@
 -- The writer's definitions worked out: the checks in their order on one street that is mended fault by fault, street A's sheet in a list that is too short, just long enough and
 -- longer, the numbers of an answer, and the longest sheet that there is. The bytes that a list held are sevens, so that a byte that was not written shows. Assumes nothing.
+use Rattle.std.specs.Prelude.{Ok}
 use Prim.Native.Nat.{ℕ, ◌+◌}
 use mathlib.Core.Path.{◌≡◌, refl, sym}
 use mathlib.Core.List.{List, [], ◌∷◌, ◌++◌, map}
@@ -8,7 +9,7 @@ use Rattle.circle.specs.Over.{first_below, list_below}
 use Rattle.street.specs.Lists.{Lists, typed}
 use Rattle.street.specs.Codes.{code_of, place_of}
 use Rattle.street.specs.Checks.{count_check, room_check, cycle_check, red_check, distance_check, speed_check}
-use Rattle.street.specs.declared.Verdict.{Verdict}
+use Rattle.street.specs.Verdicts.{Verdict}
 use Rattle.decimal.specs.Decimal.{digits_up_to}
 use Rattle.sheet.specs.Form.{pair_lines, text}
 use Rattle.sheet.specs.Reading.{passing, Reads}
@@ -17,7 +18,6 @@ use Rattle.sheet.proofs.Examples.{street_A, sheet_A, reading_a}
 use Rattle.writer.specs.Writing.{write_checks, writing_of, bytes_after, WritesSheet, writing_numbers}
 use Rattle.writer.specs.RoundTrips.{max_sheet, StreetPasses}
 use Rattle.writer.specs.Steps.{section_text}
-use Rattle.writer.specs.declared.Writing.TheVariants as writing
 
 -- two signals: the cycle, the second red and distance, the outbound speed, the inbound speeds, of which there should be one, and the lent list's room; mended, its sheet has 29 bytes
 abbrev judged : ℕ → ℕ → ℕ → ℕ → List ℕ → ℕ → Verdict
@@ -71,7 +71,7 @@ unfolding pair_lines digits_up_to
 section_a = refl
 
 -- so there is a street that is written, and a sheet that is read: the premises of both round trips
-pub written_a : WritesSheet street_A (sevens 38) (sheet_A ++ 7 ∷ 7 ∷ []) (writing.Wrote 36)
+pub written_a : WritesSheet street_A (sevens 38) (sheet_A ++ 7 ∷ 7 ∷ []) (Ok 36)
 unfolding write_checks count_check room_check cycle_check red_check distance_check speed_check first_below text pair_lines digits_up_to
 written_a = record { reply = refl; after = refl }
 

@@ -1,17 +1,21 @@
 -- How long a sheet can be. A number below ten to the k has at most k digits, so a line of two columns is as long as their limits allow, and 32 signals with 31 links between
 -- them make 833 bytes at most. With that and numbers of eight digits a street that passes the checks can be written. Assumes nothing.
+use Rattle.std.specs.Prelude.{Ok}
 use Prim.Native.Nat.{ℕ, suc, ◌+◌, ◌-◌, ◌*◌, ◌^◌, ◌≤◌, ◌<◌}
-use mathlib.Core.Path.{◌≡◌}
-use mathlib.Core.List.{List, [], ◌∷◌}
+use mathlib.Core.Path.{◌≡◌, ap}
+use mathlib.Core.List.{List, [], ◌∷◌, ◌++◌}
 use native.Mathlib.Omega.{arith}
 use lib.ListN.{length, get_or, length-append}
 use Rattle.street.specs.Lists.{Lists, signals}
 use Rattle.street.specs.Checks.{plan_checks}
-use Rattle.street.specs.declared.Verdict.TheVariants.{Passed}
 use Rattle.street.proofs.Passed.{InLimits, in_limits}
+use Rattle.road.specs.Limits.{max_signals}
 use Rattle.decimal.proofs.Digits.{at_most}
-use Rattle.sheet.specs.Form.{pair_lines, text, AllEightDigits, Writable}
+use Rattle.decimal.proofs.Writing.{room_first}
+use Rattle.sheet.specs.Form.{number_line, pair_lines, text, AllEightDigits, Writable}
 use Rattle.writer.specs.RoundTrips.{max_sheet}
+use Rattle.writer.specs.Steps.{section_text}
+use Rattle.writer.proofs.Lines.{text_sections}
 
 -- every entry of a list is below a bound
 abbrev Below : ℕ → List ℕ → Type 0
@@ -80,9 +84,48 @@ module _ (l : Lists) (room : ℕ) (ok : InLimits l room) where
       }
 
 -- of a street that passes the checks
-module _ (l : Lists) (room : ℕ) (passed : plan_checks l room ≡ Passed) where
+module _ (l : Lists) (room : ℕ) (passed : plan_checks l room ≡ Ok tt) where
   pub sheet_size : length (text l) ≤ max_sheet
   sheet_size = size l room (in_limits l room passed)
 
   pub writable : Writable l
   writable = can_be_written l room (in_limits l room passed)
+
+-- a text's parts as they are written one after the other: the first two lines, the signals behind them, and the links
+abbrev pub head : Lists → List ℕ
+head l = number_line 1 ++ number_line l.cycle
+
+abbrev pub with_signals : Lists → List ℕ
+with_signals l = head l ++ section_text l.distances l.reds
+
+abbrev pub with_links : Lists → List ℕ
+with_links l = with_signals l ++ section_text l.outbound l.inbound
+
+-- there are n bytes, room for each of them, and all of them are the text
+pub record Roomy (l : Lists) (n : ℕ) : Type 0 where
+  pub line : 0 + length (number_line 1) ≤ n
+  pub head : 0 + length (head l) ≤ n
+  pub signals : 0 + length (with_signals l) ≤ n
+  pub links : 0 + length (with_links l) ≤ n
+  pub text : with_links l ≡ text l
+  pub few : length l.distances ≤ max_signals
+  pub fewer : length l.outbound ≤ max_signals
+
+-- so it is with 833 bytes for a street that passes the checks, as it was handed
+pub roomy : {l l' : Lists} {n : ℕ} → l ≡ l' → plan_checks l' (signals l') ≡ Ok tt → max_sheet ≤ n → Roomy l n
+roomy {l} {l'} {n} same passed long =
+    let own : plan_checks l (signals l) ≡ Ok tt = rw same passed in
+    let ok = in_limits l (signals l) own in
+    let whole = text_sections l ok.counts.distances ok.counts.outbound in
+    let links : 0 + length (with_links l) ≤ n = omega (arith, ap length whole, sheet_size l (signals l) own) in
+    let front : 0 + length (with_signals l) ≤ n = room_first 0 n (with_signals l) (section_text l.outbound l.inbound) links in
+    let top : 0 + length (head l) ≤ n = room_first 0 n (head l) (section_text l.distances l.reds) front in
+    record {
+      line = room_first 0 n (number_line 1) (number_line l.cycle) top;
+      head = top;
+      signals = front;
+      links = links;
+      text = whole;
+      few = omega (arith, ok.counts);
+      fewer = omega (arith, ok.counts);
+    }

@@ -1,12 +1,10 @@
 -- What a written sheet is worth (02, 2026-01), of whatever reply and bytes the contracts of `write` and `read` allow: the statements to sign.
-use Rattle.std.specs.Prelude.{ℕ, ◌≤◌, ◌≡◌, List, length, take}
+use Rattle.std.specs.Prelude.{ℕ, ◌≤◌, ◌≡◌, List, length, take, Ok}
 use Rattle.street.specs.Lists.{Lists}
 use Rattle.street.specs.Checks.{first_fault, street_checks}
-use Rattle.street.specs.declared.Verdict.TheVariants.{Passed}
-use Rattle.sheet.specs.Reading.{lists_of, passing, Reads}
-use Rattle.sheet.specs.declared.Reading.{Reading}
-use Rattle.writer.specs.declared.Writing.{Writing}
-use Rattle.writer.specs.Writing.{WritesSheet, writing_numbers}
+use Rattle.sheet.specs.Reading.{lists_of, passing, Reading, Reads}
+use Rattle.sheet.specs.declared.Sheet.{Sheet}
+use Rattle.writer.specs.Writing.{Writing, WritesSheet, writing_numbers}
 
 -- the most bytes that the sheet of a street has which passes the checks of 01
 abbrev pub max_sheet : ℕ
@@ -14,7 +12,7 @@ max_sheet = 833
 
 -- a street passes the checks that 01 lists for it
 abbrev pub StreetPasses : Lists → Type 0
-StreetPasses l = first_fault (street_checks l) ≡ Passed
+StreetPasses l = first_fault (street_checks l) ≡ Ok tt
 
 -- the sheet that a call left in the lent list
 abbrev pub sheet_in : List ℕ → Writing → List ℕ
@@ -32,8 +30,8 @@ ReadsBack =
     (l : Lists) (entry exit : List ℕ) (r : Writing) (reading : Reading) → WritesSheet l entry exit r → (writing_numbers r).code ≡ 0 →
     Reads (sheet_in exit r) reading → reading ≡ passing l
 
--- a sheet that was read, written again from the numbers that it gave, has the same bytes; the numbers of a refused sheet are never written
+-- a sheet that was read, written again from the numbers that it gave, has the same bytes
 abbrev pub WritesAgain : Type 0
 WritesAgain =
-    (bytes : List ℕ) (reading : Reading) (entry exit : List ℕ) (r : Writing) → Reads bytes reading →
-    WritesSheet (lists_of reading.sheet) entry exit r → (writing_numbers r).code ≡ 0 → sheet_in exit r ≡ bytes
+    (bytes : List ℕ) (sheet : Sheet) (entry exit : List ℕ) (r : Writing) → Reads bytes (Ok sheet) →
+    WritesSheet (lists_of sheet) entry exit r → (writing_numbers r).code ≡ 0 → sheet_in exit r ≡ bytes

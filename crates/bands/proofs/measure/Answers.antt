@@ -1,40 +1,35 @@
 -- `bands::measure` meets its contract, by its three ways out: too few or too many offsets, a street that is refused, and one whose checks passed, whose numbers are those of the
 -- typed lists.
-use mathlib.Core.Path.{sym, ap, ◌∙◌}
-use Rattle.street.specs.Lists.{Lists, typed, signals}
-use Rattle.street.specs.declared.Verdict.TheVariants.{Passed}
-use Rattle.street.proofs.Sound.{verdict_checks, passed_street, passed_sound}
+use Rattle.std.proofs.Common.{rules, ◌≡◌, ap, sym, ◌∙◌, length, Result, Err}
+use Rattle.street.specs.Lists.{Lists, signals}
+use Rattle.street.specs.Steps.{Checked, built}
+use Rattle.street.specs.declared.Refusal.{Refusal}
+use Rattle.street.proofs.Sound.{built_ok, built_err}
 use Rattle.bands.proofs.MeasureLaws.{measure_short, measure_refused, measure_built}
 use Rattle.bands.proofs.measure.Goals as goal
 
-pub returns-then-offsets-reds : goal.returns-then-offsets-reds
-returns-then-offsets-reds c =
-    let lists : Lists = typed c.args.cycle c.args.reds.now c.args.distances.now c.args.outbound.now c.args.inbound.now in
-    measure_short lists c.args.offsets.now c.if-offsets-reds.true
+-- with as many offsets as the reds of the lists as they are held
+module _ (held l : Lists) (same : held ≡ l) where
+  reds : length held.reds ≡ signals l
+  reds = ap (λ (x : Lists). length x.reds) same
 
-pub on_street-requires : goal.on_street-requires
-on_street-requires c =
-    let lists : Lists = typed c.args.cycle c.args.reds.now c.args.distances.now c.args.outbound.now c.args.inbound.now in
-    let l = lists in
-    let offsets = c.args.offsets.now in
-    let x = c.new-built.result in
-    let passed = verdict_checks l (signals l) x Passed c.new-built.ensures c.in-Passed.is in
-    let is = passed_street l (signals l) x c.new-built.ensures passed in
-    (passed_sound l (signals l) x.street is passed, c.if-offsets-reds.false ∙ sym (ap (λ s. s.road.signals) is))
+  made : (r : Result Checked Refusal) → r ≡ built l (length held.reds) → r ≡ built l (signals l)
+  made r e = e ∙ ap (built l) reds
 
-pub returns-in-Refused : goal.returns-in-Refused
-returns-in-Refused c =
-    let lists : Lists = typed c.args.cycle c.args.reds.now c.args.distances.now c.args.outbound.now c.args.inbound.now in
-    let l = lists in
-    let offsets = c.args.offsets.now in
-    measure_refused l offsets _ c.if-offsets-reds.false (verdict_checks l (signals l) c.new-built.result _ c.new-built.ensures c.in-Refused.is)
+pub returns-then-offsets-street : goal.returns-then-offsets-street
+returns-then-offsets-street c =
+    measure_short c.args.street.now c.args.offsets.now (λ e. c.if-offsets-street.true (e ∙ sym (reds _ _ c.street.view_is)))
 
-pub returns-in-Passed : goal.returns-in-Passed
-returns-in-Passed c =
-    let lists : Lists = typed c.args.cycle c.args.reds.now c.args.distances.now c.args.outbound.now c.args.inbound.now in
-    let l = lists in
-    let offsets = c.args.offsets.now in
-    let x = c.new-built.result in
-    let passed = verdict_checks l (signals l) x Passed c.new-built.ensures c.in-Passed.is in
-    let is = passed_street l (signals l) x c.new-built.ensures passed in
-    measure_built l offsets x.street c.on_street.result c.if-offsets-reds.false passed is c.on_street.ensures
+pub returns-in_err-s : goal.returns-in_err-s
+returns-in_err-s c =
+    let l = c.args.street.now in
+    let refusal : c.from_residual.result ≡ Err c.in_err-s.field-0.0 = search rules in
+    refusal
+    ∙ measure_refused l c.args.offsets.now _ (c.if-offsets-street.false ∙ reds _ _ c.street.view_is)
+    (built_err l (signals l) _ (sym (made _ _ c.street.view_is _ c.new.ensures) ∙ c.in_err-s.was))
+
+pub returns : goal.returns
+returns c =
+    let l = c.args.street.now in
+    let told = built_ok l (signals l) c.in_ok-s.s (sym (made _ _ c.street.view_is _ c.new.ensures) ∙ c.in_ok-s.was) in
+    measure_built l c.args.offsets.now c.in_ok-s.s c.on_street.result (c.if-offsets-street.false ∙ reds _ _ c.street.view_is) told.0 told.1 c.on_street.ensures

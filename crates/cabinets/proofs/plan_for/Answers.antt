@@ -1,56 +1,43 @@
--- `cabinets::plan_for` meets its contract: a refusal by the opening, by 13 or by the plan's call, whose checks are the same from there on; a plan by the call's own answer, whose offsets become seconds.
---
-use Prim.Native.Nat.{ℕ}
-use mathlib.Core.Path.{◌≡◌, sym, ◌∙◌}
-use mathlib.Core.List.{List}
-use lib.ListN.{length}
-use Rattle.street.specs.Lists.{Lists, typed}
-use Rattle.street.specs.declared.Verdict.TheVariants.{Passed}
-use Rattle.plans.specs.Requests.{request_checks}
-use Rattle.seconds.specs.Seconds.{seconds_check}
-use Rattle.cabinets.specs.Calls.{seconds_checks}
-use Rattle.cabinets.proofs.CallLaws.{opening_refused, second-refused, as_plan, all_refused, plan-refused, convert_ready, plan_converted}
+-- `cabinets::plan_for` meets its contract: a refusal by the plan's call, whose checks are the same from 13 on; a plan by the call's own answer, whose offsets become seconds.
+use Rattle.std.proofs.Common.{rules, ℕ, ◌≡◌, ◌≤◌, ◌<◌, ◌*◌, List, ap, sym, subst, ◌∙◌, ◌++◌, length, drop, get_or, Ok, Err}
+use Rattle.circle.specs.Over.{list_below}
+use Rattle.street.specs.Limits.{max_cycle}
+use Rattle.street.specs.Lists.{Lists}
+use Rattle.seconds.specs.Seconds.{seconds_check, second_of}
+use Rattle.seconds.specs.Steps.{Offsets}
+use Rattle.cabinets.specs.Calls.{InSeconds}
+use Rattle.cabinets.proofs.CallLaws.{as_plan, plan-refused, convert_ready, plan_converted}
 use Rattle.cabinets.proofs.plan_for.Goals as goal
 
-pub returns-in-Refused : goal.returns-in-Refused
-returns-in-Refused c =
-    let lists : Lists = let a = c.args in typed a.cycle a.reds.now a.distances.now a.outbound.now a.inbound.now in
-    let lent : List ℕ = c.args.seconds.now in
-    let asked = c.args.request in
-    all_refused asked lists lent _ (opening_refused asked lists (length lent) c.opening-opened.result _ c.opening-opened.ensures c.in-Refused.is)
+-- the cycle of the lists as they are held passed 13
+whole : (held l : Lists) → held ≡ l → seconds_check held.cycle ≡ Ok tt → seconds_check l.cycle ≡ Ok tt
+whole held l same passed = ap (λ (x : Lists). seconds_check x.cycle) (sym same) ∙ passed
 
-pub returns-in-Refused-counted : goal.returns-in-Refused-counted
-returns-in-Refused-counted c =
-    let lists : Lists = let a = c.args in typed a.cycle a.reds.now a.distances.now a.outbound.now a.inbound.now in
+pub returns-in_err-plan : goal.returns-in_err-plan
+returns-in_err-plan c =
+    let l = c.args.street.now in
     let lent : List ℕ = c.args.seconds.now in
-    let asked = c.args.request in
-    all_refused asked lists lent _
-    (second-refused asked lists (length lent) c.opening-opened.result c.check-counted.result _ c.opening-opened.ensures c.in_default.is c.check-counted.ensures c.in-Refused-counted.is)
+    let same = as_plan c.args.request l (length lent) (whole _ l c.street.view_is (sym c.check.ensures ∙ c.in_ok-check.was)) in
+    let refusal : c.from_residual-in_err-plan.result ≡ Err c.in_err-plan.field-0.0 = search rules in
+    subst (InSeconds c.args.request l lent c.plan_for.new.offsets) (sym refusal)
+    (plan-refused c.args.request l lent c.plan_for.new.offsets c.plan_for.result c.plan_for.ensures same _ c.in_err-plan.was)
 
 pub convert-requires : goal.convert-requires
 convert-requires c =
-    let lists : Lists = let a = c.args in typed a.cycle a.reds.now a.distances.now a.outbound.now a.inbound.now in
+    let l = c.args.street.now in
     let lent : List ℕ = c.args.seconds.now in
-    let offsets_of : List ℕ = c.plan_for-answer.new.offsets in
-    let whole : seconds_check lists.cycle ≡ Passed = sym c.check-counted.ensures ∙ c.in_default-counted.is in
-    let same : seconds_checks c.args.request lists (length lent) ≡ request_checks c.args.request lists (length lent) = as_plan c.args.request lists (length lent) whole in
-    let (short, some, offsets) = convert_ready c.args.request lists lent offsets_of c.plan_for-answer.result c.plan_for-answer.ensures same _ c.in-Planned.is in
-    (short, whole, some, offsets)
+    let mid : List ℕ = c.plan_for.new.offsets in
+    let passed = whole _ l c.street.view_is (sym c.check.ensures ∙ c.in_ok-check.was) in
+    let same = as_plan c.args.request l (length lent) passed in
+    let (short, some, offsets) = convert_ready c.args.request l lent mid c.plan_for.result c.plan_for.ensures same _ c.in_ok-plan.was in
+    subst (λ (x : Lists). (x.cycle ≤ max_cycle) × (seconds_check x.cycle ≡ Ok tt) × (0 < 2 * x.cycle) × Offsets x.cycle x.reds mid) (sym c.street.view_is)
+    (short, passed, some, offsets)
 
-pub returns-in-Refused-answer : goal.returns-in-Refused-answer
-returns-in-Refused-answer c =
-    let lists : Lists = let a = c.args in typed a.cycle a.reds.now a.distances.now a.outbound.now a.inbound.now in
+pub returns : goal.returns
+returns c =
+    let l = c.args.street.now in
     let lent : List ℕ = c.args.seconds.now in
-    let offsets_of : List ℕ = c.plan_for-answer.new.offsets in
-    let whole : seconds_check lists.cycle ≡ Passed = sym c.check-counted.ensures ∙ c.in_default-counted.is in
-    let same : seconds_checks c.args.request lists (length lent) ≡ request_checks c.args.request lists (length lent) = as_plan c.args.request lists (length lent) whole in
-    plan-refused c.args.request lists lent offsets_of c.plan_for-answer.result c.plan_for-answer.ensures same _ c.in-Refused-answer.is
-
-pub returns-in-Planned : goal.returns-in-Planned
-returns-in-Planned c =
-    let lists : Lists = let a = c.args in typed a.cycle a.reds.now a.distances.now a.outbound.now a.inbound.now in
-    let lent : List ℕ = c.args.seconds.now in
-    let offsets_of : List ℕ = c.plan_for-answer.new.offsets in
-    let whole : seconds_check lists.cycle ≡ Passed = sym c.check-counted.ensures ∙ c.in_default-counted.is in
-    let same : seconds_checks c.args.request lists (length lent) ≡ request_checks c.args.request lists (length lent) = as_plan c.args.request lists (length lent) whole in
-    plan_converted c.args.request lists lent offsets_of c.plan_for-answer.result c.plan_for-answer.ensures same _ c.in-Planned.is _ c.convert.ensures
+    let mid : List ℕ = c.plan_for.new.offsets in
+    let same = as_plan c.args.request l (length lent) (whole _ l c.street.view_is (sym c.check.ensures ∙ c.in_ok-check.was)) in
+    plan_converted c.args.request l lent mid c.plan_for.result c.plan_for.ensures same _ c.in_ok-plan.was _
+    (c.convert.ensures ∙ ap (λ (x : Lists). list_below (length x.reds) (λ j. second_of x.cycle 0 (get_or mid j 0) (get_or x.reds j 0)) ++ drop (length x.reds) mid) c.street.view_is)

@@ -1,61 +1,38 @@
-use Prim.Native.Nat.{ℕ, ◌+◌, ◌/◌, ◌%◌, ◌^◌, ◌≤◌, ◌<◌}
-use native.Mathlib.Nat.{sub-add_cancel}
-use native.Mathlib.Omega.{arith}
-use mathlib.Core.Path.{◌≡◌, refl, ap, ◌∙◌}
-use mathlib.Core.List.{List}
-use lib.ListN.{length, set, length-set}
+use Rattle.std.proofs.Common.{ℕ, suc, ◌+◌, ◌-◌, ◌/◌, ◌%◌, ◌<◌, ◌≡◌, ◌∙◌, sym, ap, arith, List, length, set}
 use Rattle.decimal.specs.Decimal.{decimal}
 use Rattle.decimal.specs.Steps.{overwritten}
-use Rattle.decimal.proofs.Digits.{one_digit, decimal-more, size-more, decimal_some}
-use Rattle.decimal.proofs.Writing.{last-first, overwritten_byte}
+use Rattle.decimal.proofs.Digits.{last_digits, length-last_digits, last_are_all}
+use Rattle.decimal.proofs.Writing.{last-first, overwritten-none}
 use Rattle.decimal.proofs.write.Goals as goal
 
--- a list l and a number whose last digit goes to the place `last`
-module _ (l : List ℕ) (at x last : ℕ) (there : last < length l) (place : last + 1 ≡ at + length (decimal x)) where
-  -- of ten and more: the digits before it are left to be written
-  digit_first : x < 2 ^ 32 → 10 ≤ x → overwritten at (decimal (x / 10)) (set l last (48 + x % 10)) ≡ overwritten at (decimal x) l
-  digit_first small long =
-      let e : last ≡ at + length (decimal (x / 10)) = omega (arith, size-more x small long) in
-      rw (e, decimal-more x small long) (last-first at (48 + x % 10) (decimal (x / 10)) l (omega arith))
+-- as many digits are left to write as there are places up to this one
+left_are : (at x n m : ℕ) (l : List ℕ) → n ≡ length (decimal x) → m ≡ n → overwritten at (last_digits m x) l ≡ overwritten at (decimal x) l
+left_are at x n m l size e = ap (λ (ds : List ℕ). overwritten at ds l) (rw (e, size) (sym (last_are_all 20 x)))
 
-  -- below ten: nothing is left
-  digit_alone : x < 10 → set l last (48 + x) ≡ overwritten at (decimal x) l
-  digit_alone short =
-      let e : last ≡ at = omega (arith, ap length (one_digit 19 x short)) in
-      rw (e, one_digit 19 x short) (overwritten_byte at (48 + x) l (omega arith))
+-- the last of them goes to the last of the places
+digit_first : (at k place m x : ℕ) (l : List ℕ) → place ≡ at + k → m ≡ suc k → place < length l → overwritten at (last_digits k (x / 10)) (set l place (48 + x % 10)) ≡ overwritten at (last_digits m x) l
+unfolding last_digits
+digit_first at k place m x l there more room =
+    let last : place ≡ at + length (last_digits k (x / 10)) = omega (arith, length-last_digits k (x / 10)) in
+    rw (last, more) (last-first at (48 + x % 10) (last_digits k (x / 10)) l (omega arith))
 
-pub overflow_sub-last : goal.overflow_sub-last
-overflow_sub-last c = omega (arith, decimal_some c.args.x)
+-- with no place left, nothing is
+none_are : (at m x : ℕ) (l : List ℕ) → m ≡ 0 → overwritten at (last_digits m x) l ≡ l
+unfolding last_digits
+none_are at m x l e = rw e (overwritten-none at l)
 
-pub loop-rest-init : goal.loop-rest-init
-loop-rest-init c =
-    let a = c.args in
-    let some = decimal_some a.x in
-    (omega arith, omega arith, sub-add_cancel (omega arith) ∙ ap (λ (k : ℕ). a.at + k) c.size.ensures, refl, refl)
+pub loop-place-init : goal.loop-place-init
+loop-place-init c = (omega arith, left_are c.args.at c.args.x c.size.result _ c.args.bytes.now c.size.ensures (omega arith))
 
-pub overflow_sub-last-in-loop-rest : goal.overflow_sub-last-in-loop-rest
-overflow_sub-last-in-loop-rest c =
-    let rest = c.loop-rest.rest in
-    omega (arith, size-more rest (omega arith) (omega arith), decimal_some (rest / 10))
-
-pub loop-rest-preserved : goal.loop-rest-preserved
-loop-rest-preserved c =
-    let h = c.loop-rest in
-    let at = c.args.at in
-    let more = size-more h.rest (omega arith) (omega arith) in
-    let some = decimal_some (h.rest / 10) in (
-      omega arith,
-      simp length-set (omega arith),
-      omega arith,
-      simp length-set (omega arith),
-      digit_first h.bytes at h.rest h.last (omega arith) (omega arith) (omega arith) (omega arith) ∙ h.invariant.4,
-    )
+pub loop-place-preserved : goal.loop-place-preserved
+loop-place-preserved c =
+    let h = c.loop-place in
+    (omega arith, digit_first c.args.at (h.place - 1 - c.args.at) (h.place - 1) (h.place - c.args.at) h.rest h.bytes (omega arith) (omega arith) (omega arith) ∙ h.invariant.1)
 
 pub returns : goal.returns
 returns c =
-    let h = c.loop-rest in
-    let at = c.args.at in
+    let h = c.loop-place in
     record {
-      after = digit_alone h.bytes at h.rest h.last (omega arith) (omega arith) (omega arith) ∙ h.invariant.4;
+      after = sym (none_are c.args.at (h.place - c.args.at) h.rest h.bytes (omega arith)) ∙ h.invariant.1;
       next = omega arith;
     }

@@ -1,20 +1,11 @@
--- `write` meets its contract. The invariant: with the rest's digits still to be written, the list becomes what it is to become, and
--- `last` is the place of the rest's last digit. A turn writes that digit and takes it off the rest, which is the measure; behind the
--- loop one digit is left.
-use Prim.Native.Nat.{◌+◌, ◌≤◌, ◌<◌}
-use mathlib.Core.Path.{◌≡◌}
-use lib.ListN.{length}
+-- `write` meets its contract. The invariant: with the rest's last digits still to be written from the start up to the place, the list
+-- becomes what it is to become. A turn writes the last of these.
+use Rattle.std.proofs.Common.{◌-◌, ◌≤◌, ◌≡◌}
 use Rattle.decimal.specs.Decimal.{decimal}
 use Rattle.decimal.specs.Steps.{overwritten}
+use Rattle.decimal.proofs.Digits.{last_digits}
 use Rattle.decimal.proofs.write.Given as goal
 
-abbrev pub invariant-loop-rest : goal.invariant-loop-rest
-invariant-loop-rest l =
-    (l.rest ≤ l.x)
-    × (l.last < length l.bytes)
-    × (l.last + 1 ≡ l.at + length (decimal l.rest))
-    × (length l.bytes ≡ length l.initial.bytes)
-    × (overwritten l.at (decimal l.rest) l.bytes ≡ overwritten l.at (decimal l.x) l.initial.bytes)
-
-abbrev pub decreases-loop-rest : goal.decreases-loop-rest
-decreases-loop-rest l = l.rest
+abbrev pub invariant-loop-place : goal.invariant-loop-place
+invariant-loop-place l =
+    (l.at ≤ l.place) × (overwritten l.at (last_digits (l.place - l.at) l.rest) l.bytes ≡ overwritten l.at (decimal l.x) l.initial.bytes)

@@ -1,55 +1,35 @@
--- `write_signed` meets its contract. Below 0 it writes the minus sign and then the magnitude, else the number itself; that both casts
--- fit and that these are the number's text are the laws of `Signs`.
-use Prim.Native.Nat.{ℕ}
+-- The number below 0: the sign's byte is one step, and the magnitude behind it the other. The check finds this alone; by hand, a refusal
+-- shows which byte stands where the sign belongs.
 use native.Mathlib.Omega.{arith}
-use mathlib.Core.Path.{◌≡◌, ap}
-use mathlib.Core.List.{List, [], ◌∷◌, ◌++◌}
-use lib.IntN.{nat_abs}
-use lib.ListN.{length, length-set}
+use Rattle.std.proofs.Common.{ℕ, ◌+◌, ◌<◌, ◌≡◌, ◌∙◌, ap, refl, List, [], ◌∷◌, ◌++◌, length, set, add-one}
+use mathlib.Core.Bool.{true}
+use mathlib.Core.List.{append_assoc}
+use lib.IntN.{ℤ, pos, negsuc, nat_abs}
+use lib.Signed.{lt_z}
+use lib.Seq.{set_split}
+use mir.Syntax.{w32}
+use mir.ValLaws.{to_z-of_z}
+use borrow.Author.Tests.{ltb-true}
 use Rattle.decimal.specs.Decimal.{decimal, signed_decimal}
-use Rattle.decimal.proofs.Signs.{short, minused, short_fits, minus_fits, minus_casts, minus-text, plus_casts, plus_text}
-use Rattle.decimal.proofs.Writing.{writes_byte, writes_twice, writes_as}
+use Rattle.decimal.specs.Steps.{Writes}
+use Rattle.decimal.proofs.Writing.{writes_twice, writes_as}
 use Rattle.decimal.proofs.write_signed.Goals as goal
 
-pub bounds-bytes-at : goal.bounds-bytes-at
-bounds-bytes-at c =
-    let sign_text : 45 ∷ (decimal (nat_abs (minused c.args.z c.ranges.z)) ++ c.args.end ∷ []) ≡ signed_decimal c.args.z ++ c.args.end ∷ [] = ap (λ (t : List ℕ). t ++ c.args.end ∷ []) (minus-text c.args.z c.ranges.z c.if-z-lt0.true) in
-    omega (arith, ap length sign_text)
+-- a number below 0 is the sign and its magnitude
+minus-text : (z : ℤ) → lt_z z (pos 0) ≡ true → 45 ∷ decimal (nat_abs z) ≡ signed_decimal z
+minus-text (pos n) t = absurd (omega (arith, ltb-true n 0 t))
+minus-text (negsuc n) t = refl
 
-pub overflow_cast-wide : goal.overflow_cast-wide
-overflow_cast-wide c = short_fits c.args.z c.ranges.z
-
-pub overflow_sub-wide : goal.overflow_sub-wide
-overflow_sub-wide c = minus_fits c.args.z c.ranges.z c.if-z-lt0.true
-
-pub overflow_cast-wide-then-z-lt0 : goal.overflow_cast-wide-then-z-lt0
-overflow_cast-wide-then-z-lt0 c = minus_casts c.args.z c.ranges.z c.if-z-lt0.true
-
-pub write_ended-requires : goal.write_ended-requires
-write_ended-requires c =
-    let sign_text : 45 ∷ (decimal (nat_abs (minused c.args.z c.ranges.z)) ++ c.args.end ∷ []) ≡ signed_decimal c.args.z ++ c.args.end ∷ [] = ap (λ (t : List ℕ). t ++ c.args.end ∷ []) (minus-text c.args.z c.ranges.z c.if-z-lt0.true) in
-    simp length-set (omega (arith, ap length sign_text))
-
-pub overflow_cast-z : goal.overflow_cast-z
-overflow_cast-z c = plus_casts c.args.z c.ranges.z c.if-z-lt0.false
-
-pub write_ended-requires-else-z-lt0 : goal.write_ended-requires-else-z-lt0
-write_ended-requires-else-z-lt0 c =
-    let plain_text : decimal (nat_abs (short c.args.z c.ranges.z)) ++ c.args.end ∷ [] ≡ signed_decimal c.args.z ++ c.args.end ∷ [] = ap (λ (t : List ℕ). t ++ c.args.end ∷ []) (plus_text c.args.z c.ranges.z c.if-z-lt0.false) in
-    omega (arith, ap length plain_text)
-
-pub shape_of-bytes-then-z-lt0 : goal.shape_of-bytes-then-z-lt0
-shape_of-bytes-then-z-lt0 c = simp length-set at c.write_ended.auto.bytes
+-- one store is a step
+one_byte : (at b : ℕ) (l : List ℕ) → at < length l → Writes at (b ∷ []) l (set l at b) (at + 1)
+one_byte at b l room = record { after = rw (append_assoc, add-one, set_split l at b room); next = refl }
 
 pub returns-then-z-lt0 : goal.returns-then-z-lt0
 returns-then-z-lt0 c =
-    let sign_text : 45 ∷ (decimal (nat_abs (minused c.args.z c.ranges.z)) ++ c.args.end ∷ []) ≡ signed_decimal c.args.z ++ c.args.end ∷ [] = ap (λ (t : List ℕ). t ++ c.args.end ∷ []) (minus-text c.args.z c.ranges.z c.if-z-lt0.true) in
     let a = c.args in
-    let long = ap length sign_text in
-    writes_as sign_text
-    (writes_twice (omega arith) (writes_byte a.at 45 a.bytes.now (omega arith)) c.write_ended.ensures)
-
-pub returns-else-z-lt0 : goal.returns-else-z-lt0
-returns-else-z-lt0 c =
-    let plain_text : decimal (nat_abs (short c.args.z c.ranges.z)) ++ c.args.end ∷ [] ≡ signed_decimal c.args.z ++ c.args.end ∷ [] = ap (λ (t : List ℕ). t ++ c.args.end ∷ []) (plus_text c.args.z c.ranges.z c.if-z-lt0.false) in
-    writes_as plain_text c.write_ended-else-z-lt0.ensures
+    let short = to_z-of_z w32 a.z c.ranges.z in
+    let below : lt_z a.z (pos 0) ≡ true = rw short at c.if-z-lt0.true in
+    let magnitude : c.unsigned_abs.result ≡ nat_abs a.z = c.unsigned_abs.ensures.value ∙ ap nat_abs short in
+    let text : 45 ∷ (decimal c.unsigned_abs.result ++ a.end ∷ []) ≡ signed_decimal a.z ++ a.end ∷ [] = ap (λ (t : List ℕ). t ++ a.end ∷ []) (ap (λ (n : ℕ). 45 ∷ decimal n) magnitude ∙ minus-text a.z below) in
+    let long = ap length text in
+    writes_as text (writes_twice (omega arith) (one_byte a.at 45 a.bytes.now (omega arith)) c.write_ended.ensures)

@@ -5,12 +5,13 @@ use mathlib.Core.Path.{◌≡◌, sym, ◌∙◌, subst}
 use mathlib.Core.Bool.{Bool, true, false}
 use lib.Dec.{T}
 use lib.Ieee.{Float, eq, le, of_bits}
+use Rattle.std.specs.Prelude.{None}
 use Rattle.eighths.specs.Readings.{eighths_of, IsEighths}
-use Rattle.eighths.specs.declared.Eighths.TheVariants.{Outside}
 use Rattle.eighths.proofs.Bounds.{nothing, zero_is, is_zero, from-eighth, to_largest}
 use Rattle.eighths.proofs.Meaning.{is_whole, is_outside}
 use Rattle.eighths.proofs.TimesEight.{eighth, largest, from-least, to_most, in_eighths}
 use Rattle.eighths.proofs.in_eighths.Goals as goal
+use Rattle.eighths.proofs.in_eighths.Goals.{else-x-2-via-then-x-2+else-x-3, else-x-2-via-else-x-2}
 
 yes : {b : Bool} → b ≡ true → T b
 yes h = subst T (sym h) tt
@@ -19,7 +20,7 @@ no : {b : Bool} → b ≡ false → T b → ⊥
 no h t = subst T h t
 
 -- not zero, and not from an eighth to 20,000
-other : (x : Float) → eq x nothing ≡ false → ((k : ℕ) → IsEighths x (suc k) → ⊥) → Outside ≡ eighths_of x
+other : (x : Float) → eq x nothing ≡ false → ((k : ℕ) → IsEighths x (suc k) → ⊥) → None ≡ eighths_of x
 other x z h = sym (is_outside x go)
   where
     go : (k : ℕ) → IsEighths x k → ⊥
@@ -43,14 +44,11 @@ unfolding of_bits
 returns-then-x-3 c =
     c.whole.ensures ∙ in_eighths c.args.x (subst T (sym c.well_formed.0.1) tt) (yes c.if-x-2.true) (yes c.if-x-3.true)
 
-pub returns-else-x-3 : goal.returns-else-x-3
+pub returns : goal.returns
 unfolding of_bits
-returns-else-x-3 c =
+returns c =
     let x = c.args.x in
-    other x c.if-x.false (λ k i. no c.if-x-3.false (to_largest x k i))
-
-pub returns-else-x-2 : goal.returns-else-x-2
-unfolding of_bits
-returns-else-x-2 c =
-    let x = c.args.x in
-    other x c.if-x.false (λ k i. no c.if-x-2.false (from-eighth x k i))
+    elim c.else-x-2.branch [
+      | else-x-2-via-then-x-2+else-x-3 w ↦ other x c.if-x.false (λ k i. no w.if-x-3.false (to_largest x k i))
+      | else-x-2-via-else-x-2 w ↦ other x c.if-x.false (λ k i. no w.if-x-2.false (from-eighth x k i))
+    ]

@@ -7,8 +7,8 @@ use borrow.Author.Tests.{eq-eqb, ne_eqb}
 use lib.Dec.{T}
 use lib.Ieee.{binary64, to_bits}
 use lib.Ieee.Positive.{num, den}
+use Rattle.std.specs.Prelude.{Some, None}
 use Rattle.eighths.specs.Steps.{whole_of}
-use Rattle.eighths.specs.declared.Eighths.TheVariants.{Whole, Outside}
 use Rattle.eighths.proofs.Patterns.{Shifted, shifted}
 use Rattle.eighths.proofs.Wholes.{Within, within, a_number, castable, cast_is}
 use Rattle.eighths.proofs.whole.Goals as goal
@@ -34,7 +34,7 @@ pub returns-then-fraction-ne0 : goal.returns-then-fraction-ne0
 unfolding whole_of
 returns-then-fraction-ne0 c =
     let x = c.args.x in
-    sym (ap (λ (b : Bool). cond b (Whole (num x / den x)) Outside) (ne_eqb (num x % den x) 0 (λ z. omega (arith, c.if-fraction-ne0.true, (shape c.before).empty z))))
+    sym (ap (λ (b : Bool). cond b (Some (num x / den x)) None) (ne_eqb (num x % den x) 0 (λ z. omega (arith, c.if-fraction-ne0.true, (shape c.before).empty z))))
 
 pub float_to_int-result : goal.float_to_int-result
 float_to_int-result c = let s = c.before.before in castable s.args.x (sized s) ((shape s).whole (omega (arith, c.if-fraction-ne0.false)))
@@ -44,4 +44,4 @@ unfolding whole_of
 returns c =
     let s = c.before.before in
     let x = s.args.x in
-    ap Whole (cast_is x (float_to_int-result c)) ∙ sym (ap (λ (b : Bool). cond b (Whole (num x / den x)) Outside) (eq-eqb (num x % den x) 0 ((shape s).whole (omega (arith, c.if-fraction-ne0.false)))))
+    ap Some (cast_is x (float_to_int-result c)) ∙ sym (ap (λ (b : Bool). cond b (Some (num x / den x)) None) (eq-eqb (num x % den x) 0 ((shape s).whole (omega (arith, c.if-fraction-ne0.false)))))

@@ -1,6 +1,6 @@
-use mathlib.Core.Path.{refl}
-use borrow.Author.Rules.{rules}
+-- `omega` alone, so that a refusal names the count of numbers at which one more would find no room.
+use Rattle.std.proofs.Common.{arith}
 use Rattle.lines.proofs.numbers.Goals as goal
 
-pub loop-at-init : goal.loop-at-init
-loop-at-init c = (search rules, search rules, refl)
+pub push-requires : goal.push-requires
+push-requires c = (omega arith, omega arith)

@@ -20,13 +20,13 @@ returns-then-red-eq0 c =
 pub returns-in-Outbound : goal.returns-in-Outbound
 returns-in-Outbound c =
     let a = c.args in
-    c.surplus.ensures
+    c.saturating_sub.ensures
     ∙ sym (lowering_out a.raised a.red a.u _ (omega (arith, c.if-red-eq0.false)))
     ∙ sym (ap (λ x. lowering_of x a.raised a.red a.u) c.in-Outbound.is)
 
 pub returns-in-Inbound : goal.returns-in-Inbound
 returns-in-Inbound c =
     let a = c.args in
-    c.surplus-in-Inbound.ensures
+    c.saturating_sub-in-Inbound.ensures
     ∙ sym (lowering_in a.raised a.red a.u _ (omega (arith, c.if-red-eq0.false)))
     ∙ sym (ap (λ x. lowering_of x a.raised a.red a.u) c.in-Inbound.is)

@@ -43,15 +43,6 @@ room p at long fits =
 b_again : (b : ℤ) → SFits w32 b → b_item (to_z w32 (of_z w32 b)) ≡ b_item b
 b_again b fits = ap b_item (to_z-of_z w32 b fits)
 
-pub write_ended-c-requires : goal.write_ended-c-requires
-write_ended-c-requires c = omega (arith, room c.args.plan c.args.at (length c.args.bytes.now) c.requires)
-
-pub write_signed-b-requires : goal.write_signed-b-requires
-write_signed-b-requires c = omega (arith, room c.args.plan c.args.at (length c.args.bytes.now) c.requires, ap length (b_again c.args.plan.b (search rules)), c.write_ended-c)
-
-pub write_ended-outbound-requires : goal.write_ended-outbound-requires
-write_ended-outbound-requires c = omega (arith, room c.args.plan c.args.at (length c.args.bytes.now) c.requires, ap length (b_again c.args.plan.b (search rules)), c.write_ended-c, c.write_signed-b)
-
 pub write_ended-inbound-requires : goal.write_ended-inbound-requires
 write_ended-inbound-requires c =
     omega (arith, room c.args.plan c.args.at (length c.args.bytes.now) c.requires, ap length (b_again c.args.plan.b (search rules)), c.write_ended-c, c.write_signed-b, c.write_ended-outbound)

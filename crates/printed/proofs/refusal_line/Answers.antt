@@ -1,19 +1,17 @@
--- `refusal_line` meets its contract: the word with the space after it, the code's number, which `code_number` answers, and the place are
--- the line's three items.
-use Prim.Native.Nat.{ℕ, ◌+◌, ◌≤◌}
+-- `refusal_line` meets its contract: the word with the space after it, the code's number and the place are the line's three items.
+use Prim.Native.Nat.{ℕ}
 use native.Mathlib.Omega.{arith}
 use mathlib.Core.Path.{◌≡◌, ap, ◌∙◌}
 use mathlib.Core.List.{List, [], ◌∷◌, ◌++◌}
-use lib.ListN.{length}
 use Rattle.street.specs.declared.Refusal.{Refusal}
 use Rattle.street.specs.Codes.{code_number}
 use Rattle.decimal.specs.Decimal.{decimal}
 use Rattle.decimal.proofs.Writing.{writes_twice, writes_as}
 use Rattle.printed.specs.Text.{refused_word, refusal_line}
-use Rattle.printed.proofs.Lines.{three_items, three_sizes}
+use Rattle.printed.proofs.Lines.{three_items}
 use Rattle.printed.proofs.refusal_line.Goals as goal
 
--- the items as they are written, and that there is room for them
+-- the items as they are written
 abbrev word : List ℕ
 word = refused_word ++ 32 ∷ []
 
@@ -28,20 +26,7 @@ items refusal code is =
     ap (λ (n : ℕ). word ++ code_item n ++ place_item refusal) is
     ∙ three_items refused_word (decimal (code_number refusal.code)) (decimal refusal.place)
 
-room : (refusal : Refusal) (code long : ℕ) → code ≡ code_number refusal.code → length (refusal_line refusal) ≤ long →
-    8 + length (code_item code) + length (place_item refusal) ≤ long
-room refusal code long is fits =
-    omega (arith, ap length (items refusal code is), three_sizes word (code_item code) (place_item refusal))
-
-pub write_ended-coded-requires : goal.write_ended-coded-requires
-write_ended-coded-requires c =
-    omega (arith, room c.args.refusal c.code_number-code.result (length c.args.bytes.now) c.code_number-code.ensures c.requires, c.copy-word)
-
-pub write_ended-requires : goal.write_ended-requires
-write_ended-requires c =
-    omega (arith, room c.args.refusal c.code_number-code.result (length c.args.bytes.now) c.code_number-code.ensures c.requires, c.copy-word, c.write_ended-coded)
-
 pub returns : goal.returns
 returns c =
-    writes_as (items c.args.refusal c.code_number-code.result c.code_number-code.ensures)
+    writes_as (items c.args.refusal c.into.result c.into.ensures)
     (writes_twice (omega arith) (writes_twice (omega arith) c.copy-word.ensures c.write_ended-coded.ensures) c.write_ended.ensures)

@@ -1,6 +1,7 @@
 -- From rounded times to lags near them and back, in one direction. A stretch under one of the two lists of lags is a stretch under the other, shorter by N times r: they differ within a window
 -- of that length. So a band along the near lags is at most N times r narrower than a stretch of halves at rounded times, and leaves one that is at most N times r narrower than itself. Counted
 -- at a signal c, where both kinds of times agree, a stretch loses at most N times r at each end: what is left of a named band is clear. Assumes nothing.
+use Rattle.std.specs.Prelude.{Ok}
 use Prim.Native.Nat.{ℕ, zero, suc, ◌+◌, ◌-◌, ◌*◌, ◌≤◌, ◌<◌}
 use mathlib.Core.Path.{◌≡◌, sym, ap, subst, ◌∙◌}
 use mathlib.Core.Bool.{true}
@@ -14,7 +15,6 @@ use Rattle.circle.proofs.Bands.{Named, meets, finer_passes, fit_scaled}
 use Rattle.street.specs.Lists.{Lists, signals}
 use Rattle.street.specs.Checks.{plan_checks}
 use Rattle.street.specs.Streets.{timed}
-use Rattle.street.specs.declared.Verdict.TheVariants.{Passed}
 use Rattle.promises.specs.Replies.{InsideClear, into_band}
 use Rattle.promises.proofs.Streets.Passing.{fit}
 use Rattle.promises.proofs.Streets.Directions.{way_in, Direction}
@@ -28,7 +28,7 @@ turned w proper x y i k l turns passes =
     let first : x + 0 ≡ x = omega arith in
     sym (ap (clear w) first) ∙ all_each 1 (λ i. clear w (x + i)) (passes_stretch w x 1 here) 0 (omega arith)
 
-module _ (l : Lists) (room : ℕ) (passed : plan_checks l room ≡ Passed) (N r : ℕ) (fine : 0 < N) {coarse rounded near : ℕ → ℕ} (d : Direction l N r coarse rounded near) where
+module _ (l : Lists) (room : ℕ) (passed : plan_checks l room ≡ (Ok tt)) (N r : ℕ) (fine : 0 < N) {coarse rounded near : ℕ → ℕ} (d : Direction l N r coarse rounded near) where
   pub proper : (f : ℕ → ℕ) → Proper (way_in l N f near)
   proper f = proper_way (in_units N (timed l)) f (fit_scaled N (timed l) fine (fit l room passed))
 

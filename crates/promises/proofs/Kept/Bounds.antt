@@ -2,6 +2,7 @@
 -- stretches together never exceed 2B, counted in the fine unit: so the narrower band is at most B and r. The other way, named bands at rounded times leave bands that fall short by r at most;
 -- and of them all but r halves at each end is clear, counted at the reference. With r 0 every band is a stretch at rounded times and back: beside a band of w nothing wider than 2B - w is
 -- left, whatever the offsets, and a plan's named bands are the bands, since they make up 2B as stretches of signed length. Assumes nothing.
+use Rattle.std.specs.Prelude.{Ok}
 use Prim.Native.Nat.{ℕ, ◌+◌, ◌-◌, ◌*◌, ◌≤◌, ◌<◌, min}
 use mathlib.Core.Path.{◌≡◌, ap, subst}
 use native.Mathlib.Omega.{arith}
@@ -16,14 +17,13 @@ use Rattle.circle.proofs.Bands.{Bands, beside, longest_both, fit_scaled, B⁺_sc
 use Rattle.street.specs.Lists.{Lists}
 use Rattle.street.specs.Checks.{plan_checks}
 use Rattle.street.specs.Streets.{timed}
-use Rattle.street.specs.declared.Verdict.TheVariants.{Passed}
 use Rattle.widths.specs.declared.Shift.TheVariants.{Unmoved}
 use Rattle.promises.specs.Replies.{InsideClear, NoneBetter}
 use Rattle.promises.proofs.Streets.Passing.{fit, bounded_fine}
 use Rattle.promises.proofs.Streets.Directions.{way_in, Near, ways_by}
 use Rattle.promises.proofs.Bands.Stretched.{leaves, all_left, named_short, named_inside, named_exact}
 
-module _ (l : Lists) (room : ℕ) (passed : plan_checks l room ≡ Passed) (N r : ℕ) {out back : ℕ → ℕ} (near : Near l N r out back) where
+module _ (l : Lists) (room : ℕ) (passed : plan_checks l room ≡ (Ok tt)) (N r : ℕ) {out back : ℕ → ℕ} (near : Near l N r out back) where
   fit_fine : Fit (in_units N (timed l))
   fit_fine = fit_scaled N (timed l) near.some (fit l room passed)
 

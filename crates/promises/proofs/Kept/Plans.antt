@@ -1,5 +1,6 @@
 -- What every plan keeps. Offsets that agree with a plan's at every signal have its named bands, as wide as it reports; so along lags near the rounded ones they keep all that a plan promises,
 -- with the plan's own numbers. A plan that moves nothing lowers every offset by 0, so that it is the equal plan; and what platoons ask for is in range. Assumes nothing.
+use Rattle.std.specs.Prelude.{Ok}
 use Prim.Native.Nat.{ℕ, ◌+◌, ◌-◌, ◌*◌, ◌≤◌, ◌<◌}
 use mathlib.Core.Path.{◌≡◌, refl, subst, ◌∙◌}
 use mathlib.Core.Bool.{true}
@@ -13,7 +14,6 @@ use Rattle.circle.proofs.Bands.{Bands, equal_bands, outbound_bands, inbound_band
 use Rattle.street.specs.Lists.{Lists}
 use Rattle.street.specs.Checks.{plan_checks}
 use Rattle.street.specs.Streets.{m, timed}
-use Rattle.street.specs.declared.Verdict.TheVariants.{Passed}
 use Rattle.widths.specs.Moved.{platoon_shift, outbound_width, inbound_width}
 use Rattle.widths.proofs.WidthLaws.{favours_neither, favours_outbound, favours_inbound}
 use Rattle.widths.specs.declared.Shift.{Shift}
@@ -65,7 +65,7 @@ module _ (s : Timed) (ok : Fit s) (rise : Rising s) where
           let k : P < Q = omega arith in
           subst (InRange s) (favours_inbound s P Q (platoon_width s Q (P + Q)) n l refl) (platoons_range s ok Q (P + Q) (omega arith) (omega arith))
 
-module _ (l : Lists) (room : ℕ) (passed : plan_checks l room ≡ Passed) (N r : ℕ) {out back : ℕ → ℕ} (near : Near l N r out back) where
+module _ (l : Lists) (room : ℕ) (passed : plan_checks l room ≡ (Ok tt)) (N r : ℕ) {out back : ℕ → ℕ} (near : Near l N r out back) where
   -- no offsets do better than a shift in range
   none_better : (shift : Shift) → InRange (timed l) shift → NoneBetter shift (ways_by l N out back) (outbound_width shift (timed l)) (inbound_width shift (timed l)) r
   none_better Unmoved range = none-wider l room passed N r near

@@ -1,4 +1,5 @@
 -- The promises of streets where every signal rests: the method's numbers there, and a band with no red to end it. Assumes nothing.
+use Rattle.std.specs.Prelude.{Ok, Err}
 use Prim.Native.Nat.{ℕ, ◌+◌, ◌<◌}
 use mathlib.Core.Path.{◌≡◌, refl, sym, ap, ◌∙◌}
 use native.Mathlib.Omega.{arith}
@@ -13,8 +14,7 @@ use Rattle.street.specs.Lists.{signals}
 use Rattle.street.specs.Checks.{unless, plan_checks}
 use Rattle.street.specs.Streets.{timed}
 use Rattle.street.specs.declared.Code.TheVariants.{Width}
-use Rattle.street.specs.declared.Verdict.{Verdict}
-use Rattle.street.specs.declared.Verdict.TheVariants.{Passed, Refused}
+use Rattle.street.specs.Verdicts.{Verdict}
 use Rattle.street.proofs.CheckLaws.{code_some}
 use Rattle.street.proofs.Passed.{first_passed}
 use Rattle.stretches.specs.Stretches.{band_of}
@@ -22,7 +22,8 @@ use Rattle.widths.specs.Moved.{shift_of, outbound_width, inbound_width}
 use Rattle.widths.specs.Checks.{width_check}
 use Rattle.widths.specs.declared.Shift.{Shift}
 use Rattle.widths.specs.declared.Shift.TheVariants.{Unmoved, Outbound, Inbound}
-use Rattle.bands.specs.Measure.{offset_check, measure_checks, measured_of, found_or, band_numbers}
+use Rattle.bands.specs.Measure.{offset_check, measure_checks, measured_of, band_numbers}
+use Rattle.street.specs.Verdicts.{answered}
 use Rattle.bands.proofs.CheckLaws.{checks_short, checks_full}
 use Rattle.promises.specs.Resting.{RestingReplies, RestingWidths, RestingMeasures}
 use Rattle.promises.proofs.Streets.Passing.{fit}
@@ -66,11 +67,11 @@ resting_measures l offsets rest = go (measure_checks l offsets) refl
     s : Timed
     s = timed l
 
-    go : (v : Verdict) → measure_checks l offsets ≡ v → (band_numbers (found_or v (measured_of s offsets))).code ≡ 0 →
-        ((band_numbers (found_or v (measured_of s offsets))).outbound ≡ record { width = halves s; start = 0 })
-        × ((band_numbers (found_or v (measured_of s offsets))).inbound ≡ record { width = halves s; start = 0 })
-    go (Refused f) is code = absurd (omega (arith, code_some f.code))
-    go Passed is code = found (ℕ_discrete (length offsets) (signals l))
+    go : (v : Verdict) → measure_checks l offsets ≡ v → (band_numbers (answered v (measured_of s offsets))).code ≡ 0 →
+        ((band_numbers (answered v (measured_of s offsets))).outbound ≡ record { width = halves s; start = 0 })
+        × ((band_numbers (answered v (measured_of s offsets))).inbound ≡ record { width = halves s; start = 0 })
+    go (Err f) is code = absurd (omega (arith, code_some f.code))
+    go (Ok tt) is code = found (ℕ_discrete (length offsets) (signals l))
       where
         found : Dec (length offsets ≡ signals l) → (band_of (outbound_way s (λ j. get_or offsets j 0)) ≡ record { width = halves s; start = 0 }) × (band_of (inbound_way s (λ j. get_or offsets j 0)) ≡ record { width = halves s; start = 0 })
         found (no n) = let z : ◌≡◌ {A = ℕ} 0 1 = cc (checks_short l offsets n, is) in absurd (omega arith)

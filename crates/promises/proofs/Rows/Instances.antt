@@ -1,6 +1,7 @@
 -- Document 01's rows 2 and 3 and its street A as instances of the promises, and the streets with two reds, with one and with none beside signals that rest (02, 2026-05): `measure` finds the
 -- bands under the offsets that the row's call leaves as wide as the row says. The reply and the list are the row's, by computation; that the width is the measured one is the theorem. 01's own
 -- formula would cut the bands of these streets short. And rows of volumes as instances of the contract of `volumes`, with the largest volumes. Assumes nothing.
+use Rattle.std.specs.Prelude.{Result, Ok, Err}
 use Prim.Native.Nat.{ℕ}
 use mathlib.Core.Path.{◌≡◌, refl}
 use mathlib.Core.List.{List, [], ◌∷◌, map}
@@ -18,7 +19,9 @@ use Rattle.widths.specs.Moved.{platoon_shift}
 use Rattle.widths.specs.Checks.{platoon_check, traffic_check}
 use Rattle.widths.specs.declared.Request.TheVariants.{Equal}
 use Rattle.plans.specs.Volumes.{Carries}
-use Rattle.plans.specs.declared.Answer.{Answer}
+use Rattle.plans.specs.declared.Carried.{Carried}
+use Rattle.street.specs.declared.Refusal.{Refusal}
+use Rattle.plans.specs.Answers.{Answer}
 use Rattle.bands.specs.Measure.{band_numbers, measurement_of}
 use Rattle.promises.specs.Rows.{two_signals, two_alike, street_A, crossing, one_red, no_red, plan, lent}
 use Rattle.promises.proofs.Replies.Measures.{measure_agrees}
@@ -54,9 +57,14 @@ pub uncut : map (λ l. B (timed l)) (crossing ∷ one_red ∷ no_red ∷ []) ≡
 unfolding two_signals crossing one_red no_red sum_below u pair_width b B over_below all_below
 uncut = refl
 
+-- an answer with volumes beside its plan
+abbrev beside : Answer → ℕ → ℕ → Result Carried Refusal
+beside (Ok p) out back = Ok (record { plan = p; outbound = out; inbound = back })
+beside (Err f) out back = Err f
+
 -- street A with 800 and 300 vehicles an hour, with two volumes whose platoons are equal, and with none: the reply, the list, and the largest volumes beside the reply
 abbrev CarriesOnA : ℕ → ℕ → ℕ → Answer → List ℕ → ℕ → ℕ → Type 0
-CarriesOnA out back h answer exit most most' = Carries out back h street_A lent exit (record { answer = answer; outbound = most; inbound = most' })
+CarriesOnA out back h answer exit most most' = Carries out back h street_A lent exit (beside answer most most')
 
 pub volumes :
     CarriesOnA 800 300 20 (plan 1 (pos 60) 89 31 0 11 131) (171 ∷ 10 ∷ 7 ∷ []) 801 279

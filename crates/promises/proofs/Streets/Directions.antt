@@ -1,6 +1,7 @@
 -- The two directions of a street, at rounded times and at exact ones. Counted in a finer unit the rounded times are as they were. Where the checks found no fault every speed is above 0, so each
 -- link obeys the law of one link, and a link that is rounded in either direction counts: each direction's exact lags stay within a window of N times m about its rounded ones. So both kinds
 -- of times are lags near the rounded ones, within r halves, r being 0 or m; what comes after is said once, of any such lags. Assumes nothing.
+use Rattle.std.specs.Prelude.{Ok}
 use Prim.Native.Nat.{ℕ, ◌-◌, ◌*◌, ◌<◌}
 use mathlib.Core.Path.{◌≡◌}
 use native.Mathlib.Omega.{arith}
@@ -12,7 +13,6 @@ use Rattle.road.proofs.Nearest.{link_near, out_marked, back_marked}
 use Rattle.street.specs.Lists.{Lists, signals}
 use Rattle.street.specs.Checks.{plan_checks}
 use Rattle.street.specs.Streets.{m, timed}
-use Rattle.street.specs.declared.Verdict.TheVariants.{Passed}
 use Rattle.street.proofs.Passed.{in_limits}
 use Rattle.promises.specs.Exact.{Fine, exact_link, Ways, rounded_ways, exact_ways}
 use Rattle.promises.proofs.Streets.Passing.{fit}
@@ -37,7 +37,7 @@ pub record Near (l : Lists) (N r : ℕ) (out back : ℕ → ℕ) : Type 0 where
 abbrev pub ways_by : Lists → ℕ → (ℕ → ℕ) → (ℕ → ℕ) → Ways
 ways_by l N out back = record { unit = N; outbound = λ f. way_in l N f out; inbound = λ f. way_in l N f back }
 
-module _ (l : Lists) (room : ℕ) (passed : plan_checks l room ≡ Passed) (N : ℕ) where
+module _ (l : Lists) (room : ℕ) (passed : plan_checks l room ≡ (Ok tt)) (N : ℕ) where
   pub near_rounded : 0 < N → Near l N 0 ((rounded_ways l N).outbound (λ j. 0)).lag ((rounded_ways l N).inbound (λ j. 0)).lag
   near_rounded some =
       let turns = (fit l room passed).turns in

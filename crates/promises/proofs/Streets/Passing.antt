@@ -1,5 +1,6 @@
 -- What the theory asks of a street holds of every street that the checks pass: a signal, every red below the cycle, and inbound times that grow with the distance.
 -- Assumes nothing.
+use Rattle.std.specs.Prelude.{Ok}
 use Prim.Native.Nat.{ℕ, ◌-◌, ◌<◌}
 use mathlib.Core.Path.{◌≡◌}
 use native.Mathlib.Omega.{arith}
@@ -11,10 +12,9 @@ use Rattle.road.specs.Times.{link_ticks}
 use Rattle.street.specs.Lists.{Lists, signals}
 use Rattle.street.specs.Checks.{plan_checks}
 use Rattle.street.specs.Streets.{timed}
-use Rattle.street.specs.declared.Verdict.TheVariants.{Passed}
 use Rattle.street.proofs.Passed.{in_limits}
 
-module _ (l : Lists) (room : ℕ) (passed : plan_checks l room ≡ Passed) where
+module _ (l : Lists) (room : ℕ) (passed : plan_checks l room ≡ (Ok tt)) where
   pub fit : Fit (timed l)
   fit =
       let ok = in_limits l room passed in

@@ -1,8 +1,8 @@
 -- `seconds::convert` meets its contract. The loop's invariant: the entries before `j` are seconds, and the list is as it was from there on.
-use Prim.Native.Nat.{ℕ, ◌-◌, ◌≤◌}
+use Prim.Native.Nat.{ℕ}
 use mathlib.Core.Path.{◌≡◌}
 use mathlib.Core.List.{List, ◌++◌}
-use lib.ListN.{length, drop, get_or}
+use lib.ListN.{drop, get_or}
 use Rattle.circle.specs.Over.{list_below}
 use Rattle.seconds.specs.Seconds.{second_of}
 use Rattle.seconds.proofs.convert.Given as goal
@@ -13,7 +13,4 @@ seconds cycle frame reds list j = second_of cycle frame (get_or list j 0) (get_o
 
 abbrev pub invariant-loop-j : goal.invariant-loop-j
 invariant-loop-j l =
-    (l.j ≤ length l.reds) × (length l.list ≡ length l.initial.list) × (l.list ≡ list_below l.j (seconds l.cycle l.frame l.reds l.initial.list) ++ drop l.j l.initial.list)
-
-abbrev pub decreases-loop-j : goal.decreases-loop-j
-decreases-loop-j l = length l.reds - l.j
+    l.list ≡ list_below l.j (seconds l.cycle l.frame l.reds l.initial.list) ++ drop l.j l.initial.list

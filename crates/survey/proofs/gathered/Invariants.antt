@@ -1,5 +1,5 @@
 -- `survey::gathered` meets its contract. The loop's invariant: the rows before `i` are those of the lists.
-use Prim.Native.Nat.{ℕ, ◌-◌, ◌≤◌, ◌<◌}
+use Prim.Native.Nat.{ℕ, ◌<◌}
 use mathlib.Core.Path.{◌≡◌}
 use lib.ListN.{length}
 use Rattle.road.specs.Limits.{max_signals}
@@ -8,9 +8,7 @@ use Rattle.survey.proofs.gathered.Given as goal
 
 abbrev pub invariant-loop-i : goal.invariant-loop-i
 invariant-loop-i l =
-    (l.i ≤ length l.reds)
-    × (length l.rows ≡ max_signals)
-    × ((j : ℕ) → j < l.i → in_rows l.rows j ≡ in_lists l.kinds l.positions l.outbound l.inbound l.reds j)
-
-abbrev pub decreases-loop-i : goal.decreases-loop-i
-decreases-loop-i l = length l.reds - l.i
+    record {
+      room : length l.rows ≡ max_signals;
+      rows : (j : ℕ) → j < l.i → in_rows l.rows j ≡ in_lists l.kinds l.positions l.outbound l.inbound l.reds j;
+    }

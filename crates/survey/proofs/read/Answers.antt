@@ -1,36 +1,18 @@
--- `survey::read` meets its contract: the count is judged first, then `fill` finds the first bad row, and where there is none its arrays are those of the street.
-use mathlib.Core.Path.{refl, sym, ap, ◌∙◌}
-use Rattle.street.specs.declared.Verdict.TheVariants.{Passed}
-use Rattle.sheet.specs.declared.Sheet.{Sheet}
-use Rattle.survey.specs.Typing.{typed_rows, survey_checks, in_rows}
-use Rattle.survey.proofs.TypingLaws.{count_refuses, count_passes, row_range, reads_refused, reads_passed, typed_sheet}
+-- `survey::read` meets its contract: the count is judged first, and rows of which there are as many as there may be are judged in their order.
+use mathlib.Core.Path.{◌≡◌, sym, ◌∙◌}
+use borrow.Author.Rules.{rules}
+use Rattle.std.specs.Prelude.{Err}
+use Rattle.survey.specs.Typing.{in_rows}
+use Rattle.survey.proofs.TypingLaws.{row_range, miscounted, well_counted}
 use Rattle.survey.proofs.read.Goals as goal
 
-pub returns-in-Refused : goal.returns-in-Refused
-returns-in-Refused c =
-    let a = c.args in
-    let row = in_rows a.rows in
-    c.no_reading.ensures ∙ reads_refused (survey_checks a.count row) (typed_rows a.cycle a.count row) _ (count_refuses a.count row _ (sym c.row_count-counted.ensures ∙ c.in-Refused.is))
+pub returns-in_err-row_count : goal.returns-in_err-row_count
+returns-in_err-row_count c =
+    let refusal : c.from_residual.result ≡ Err c.in_err-row_count.field-0.0 = search rules in
+    refusal ∙ miscounted c.args.cycle _ (in_rows c.args.rows.now) _ (sym c.row_count.ensures ∙ c.in_err-row_count.was)
 
-pub fill-verdict-requires : goal.fill-verdict-requires
-fill-verdict-requires c =
-    let range = row_range c.args.count (sym c.row_count-counted.ensures ∙ c.in_default.is) in
-    (range.0, range.1, refl, refl, refl, refl)
+pub typed-requires : goal.typed-requires
+typed-requires c = let range = row_range _ (sym c.row_count.ensures ∙ c.in_ok-row_count.was) in (range.low, range.high)
 
-pub returns-in-Refused-verdict : goal.returns-in-Refused-verdict
-returns-in-Refused-verdict c =
-    let a = c.args in
-    let row = in_rows a.rows in
-    c.no_reading-in-Refused-verdict.ensures
-    ∙ reads_refused (survey_checks a.count row) (typed_rows a.cycle a.count row) _
-    (count_passes a.count row (sym c.row_count-counted.ensures ∙ c.in_default.is) ∙ sym c.fill-verdict.ensures.verdict ∙ c.in-Refused-verdict.is)
-
-pub returns-in-Passed : goal.returns-in-Passed
-returns-in-Passed c =
-    let a = c.args in
-    let row = in_rows a.rows in
-    let l = c.fill-verdict.new in
-    let went = c.in-Passed.is in
-    ap (λ (s : Sheet). record { verdict = Passed; sheet = s }) (typed_sheet a.cycle a.count row l.reds l.distances l.outbound l.inbound (c.fill-verdict.ensures.columns went))
-    ∙ reads_passed (survey_checks a.count row) (typed_rows a.cycle a.count row)
-    (count_passes a.count row (sym c.row_count-counted.ensures ∙ c.in_default.is) ∙ sym c.fill-verdict.ensures.verdict ∙ went)
+pub returns : goal.returns
+returns c = c.typed.ensures ∙ well_counted c.args.cycle _ (in_rows c.args.rows.now) (sym c.row_count.ensures ∙ c.in_ok-row_count.was)

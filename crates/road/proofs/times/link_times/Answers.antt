@@ -1,8 +1,8 @@
--- `road::times::link_times` meets its contract: the link is near enough and both speeds are in range, so each time is the one that the definitions name; the mark is that
--- of the same two answers.
+-- `road::times::link_times` meets its contract: the link is near enough and both speeds are in range, so each time is the one that the definitions name; so is whether
+-- either was rounded.
 use Prim.Native.Nat.{ℕ, ◌≤◌, ◌<◌}
 use mathlib.Core.Path.{◌≡◌, ap, ap₂, ◌∙◌}
-use mathlib.Core.Bool.{Bool, cond, not}
+use mathlib.Core.Bool.{Bool, not}
 use mathlib.Core.List.{List}
 use native.Mathlib.Omega.{arith}
 use lib.ListN.{length, get_or}
@@ -16,10 +16,6 @@ use Rattle.road.proofs.times.link_times.Goals as goal
 -- what a direction's time requires
 ready : (ds vs : List ℕ) (k long : ℕ) → Driveable ds vs → k < length vs → long ≡ link_length ds k → (long ≤ max_distance) × (min_speed ≤ get_or vs k 0) × (get_or vs k 0 ≤ max_speed)
 ready ds vs k long ok h e = (omega (arith, e, link_near ds vs ok k h), ok.slow k h, ok.fast k h)
-
--- the mark of two answers is that of what they are
-marked : (r : ℕ) (p q p' q' : Bool) → r ≡ cond (not p or not q) 1 0 → p ≡ p' → q ≡ q' → r ≡ cond (not p' or not q') 1 0
-marked r p q p' q' e f g = e ∙ ap₂ (λ (x y : Bool). cond (not x or not y) 1 0) f g
 
 pub link_length-long-requires : goal.link_length-long-requires
 link_length-long-requires c =
@@ -44,5 +40,6 @@ returns c =
       outbound = there.ensures.0 ∙ ap (λ (d : ℕ). ticks d out) long;
       inbound = home.ensures.0 ∙ ap (λ (d : ℕ). ticks d back) long;
       rounded =
-          marked c.mark.result there.result.whole home.result.whole _ _ c.mark.ensures (there.ensures.1 ∙ ap (λ (d : ℕ). whole d out) long) (home.ensures.1 ∙ ap (λ (d : ℕ). whole d back) long);
+          c.rounded.ensures
+          ∙ ap₂ (λ (x y : Bool). not x or not y) (there.ensures.1 ∙ ap (λ (d : ℕ). whole d out) long) (home.ensures.1 ∙ ap (λ (d : ℕ). whole d back) long);
     }

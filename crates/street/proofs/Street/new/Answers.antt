@@ -1,55 +1,56 @@
--- `street::Street::new` meets its contract: the verdict decides. Where every check passed, they tell what the two fillings require, and the distances are as many as the
--- signals; where one refused, nothing is filled and every number stays 0.
-use Prim.Native.Nat.{ℕ}
-use mathlib.Core.Path.{◌≡◌, refl, sym, ap, ◌∙◌}
-use mathlib.Core.List.{List}
-use lib.ListN.{length}
-use Rattle.road.specs.Steps.{road_of, laid}
-use Rattle.street.specs.Lists.{Lists, typed}
+-- `street::Street::new` meets its contract: where every check passed, they tell what the road and the reds require, and that the street is sound.
+use Rattle.std.proofs.Common.{ℕ, ◌≡◌, sym, ap, ◌∙◌, subst, List, length, get_or, Ok}
+use Rattle.road.specs.Steps.{padded, road_of}
+use Rattle.road.specs.declared.Road.{Road}
+use Rattle.street.specs.Lists.{Lists, signals, typed}
 use Rattle.street.specs.Checks.{plan_checks}
-use Rattle.street.specs.Steps.{street_of, no_street, built}
-use Rattle.street.specs.declared.Refusal.{Refusal}
-use Rattle.street.specs.declared.Street.{Street}
-use Rattle.street.specs.declared.Built.{Built}
-use Rattle.street.specs.declared.Verdict.{Verdict}
-use Rattle.street.specs.declared.Verdict.TheVariants.{Passed, Refused}
-use Rattle.street.proofs.Passed.{InLimits, in_limits}
+use Rattle.street.specs.Verdicts.{answered}
+use Rattle.street.specs.Steps.{Checked, Sound, timed_street, street_of, built}
+use Rattle.street.proofs.Passed.{in_limits}
+use Rattle.street.proofs.Sound.{sound}
 use Rattle.street.proofs.Street.new.Goals as goal
 
-abbrev answer : Verdict → Street → Built
-answer v s = record { verdict = v; street = s }
+-- the lists as their struct holds them pass the checks that the handed ones passed
+passed : (l l' : Lists) (room : ℕ) → l ≡ l' → plan_checks l' room ≡ Ok tt → plan_checks l room ≡ Ok tt
+passed l l' room same ok = ap (λ (x : Lists). plan_checks x room) same ∙ ok
 
--- what the verdict on lists comes to
-module _ (l : Lists) (room : ℕ) (v : Verdict) (is : v ≡ plan_checks l room) where
-  passed : v ≡ Passed → InLimits l room
-  passed told = in_limits l room (sym is ∙ told)
+-- the street of a road and reds that were made of lists
+put_together : (l : Lists) (road : Road) (reds : List ℕ) → length l.distances ≡ signals l → road ≡ road_of (length l.distances) l.distances l.outbound l.inbound → reds ≡ padded (length l.reds) (λ j. get_or l.reds j 0) → ◌≡◌ {A = Checked} (record { road = road; cycle = l.cycle; reds = reds }) (street_of l)
+put_together l road reds even laid red =
+    λ i.
+    record {
+      road = (laid ∙ ap (λ (n : ℕ). road_of n l.distances l.outbound l.inbound) even) i;
+      cycle = l.cycle;
+      reds = red i;
+    }
 
-  filled : v ≡ Passed → (out back reds : List ℕ) (m : ℕ) → laid (length l.distances) out back m ≡ road_of (length l.distances) l.distances l.outbound l.inbound → reds ≡ (street_of l).reds → answer v (record { road = laid (length l.distances) out back m; cycle = l.cycle; reds = reds }) ≡ built l room
-  filled told out back reds m road copied =
-      let all = ap (λ (n : ℕ). road_of n l.distances l.outbound l.inbound) (passed told).counts.distances in
-      simp (told, sym is ∙ told, road ∙ all, copied)
+-- the answer where every check passed
+answer : (l l' : Lists) (room : ℕ) (s : Checked) → l ≡ l' → plan_checks l' room ≡ Ok tt → s ≡ street_of l → Ok s ≡ built l' room
+answer l l' room s same ok is =
+    ap Ok (is ∙ ap street_of same) ∙ ap (λ v. answered v (street_of l')) (sym ok)
 
-  empty : (f : Refusal) → v ≡ Refused f → answer v no_street ≡ built l room
-  empty f told = simp (told, sym is ∙ told)
+pub new-requires : goal.new-requires
+new-requires c =
+    let l : Lists = typed c.street.inside.cycle c.street.inside.reds.now c.street.inside.distances.now c.street.inside.outbound.now c.street.inside.inbound.now in
+    let ok = in_limits l c.args.lent (passed l _ _ c.street.view_is (sym c.judged.ensures ∙ c.in_ok-judged.was)) in
+    (ok.outbound, ok.inbound)
 
-pub fill-rounded-requires : goal.fill-rounded-requires
-fill-rounded-requires c =
-    let lists : Lists = typed c.args.cycle c.args.reds.now c.args.distances.now c.args.outbound.now c.args.inbound.now in
-    let ready : InLimits lists c.args.lent = passed lists c.args.lent _ c.judged-verdict.ensures c.in-Passed.is in
-    let ok = ready in (ok.outbound, ok.inbound, refl, refl)
+pub padded-requires : goal.padded-requires
+padded-requires c =
+    let l : Lists = typed c.street.inside.cycle c.street.inside.reds.now c.street.inside.distances.now c.street.inside.outbound.now c.street.inside.inbound.now in
+    let ok = in_limits l c.args.lent (passed l _ _ c.street.view_is (sym c.judged.ensures ∙ c.in_ok-judged.was)) in
+    ok.counts.most
 
-pub copied-requires : goal.copied-requires
-copied-requires c =
-    let lists : Lists = typed c.args.cycle c.args.reds.now c.args.distances.now c.args.outbound.now c.args.inbound.now in
-    let ready : InLimits lists c.args.lent = passed lists c.args.lent _ c.judged-verdict.ensures c.in-Passed.is in
-    (ready.counts.most, refl)
+pub invariant_of-result : goal.invariant_of-result
+invariant_of-result c =
+    let l : Lists = typed c.street.inside.cycle c.street.inside.reds.now c.street.inside.distances.now c.street.inside.outbound.now c.street.inside.inbound.now in
+    let pass = passed l _ c.args.lent c.street.view_is (sym c.judged.ensures ∙ c.in_ok-judged.was) in
+    let ok = in_limits l c.args.lent pass in
+    subst (λ (s : Checked). Sound (timed_street s)) (sym (put_together l _ _ ok.counts.distances c.new.ensures c.padded.ensures)) (sound l c.args.lent pass)
 
-pub returns-in-Passed : goal.returns-in-Passed
-returns-in-Passed c =
-    let lists : Lists = typed c.args.cycle c.args.reds.now c.args.distances.now c.args.outbound.now c.args.inbound.now in
-    filled lists c.args.lent _ c.judged-verdict.ensures c.in-Passed.is _ _ _ _ c.fill-rounded.ensures c.copied.ensures
-
-pub returns-in_default : goal.returns-in_default
-returns-in_default c =
-    let lists : Lists = typed c.args.cycle c.args.reds.now c.args.distances.now c.args.outbound.now c.args.inbound.now in
-    empty lists c.args.lent _ c.judged-verdict.ensures _ c.in_default.is
+pub returns : goal.returns
+returns c =
+    let l : Lists = typed c.street.inside.cycle c.street.inside.reds.now c.street.inside.distances.now c.street.inside.outbound.now c.street.inside.inbound.now in
+    let told = sym c.judged.ensures ∙ c.in_ok-judged.was in
+    let ok = in_limits l c.args.lent (passed l _ _ c.street.view_is told) in
+    answer l _ _ _ c.street.view_is told (put_together l _ _ ok.counts.distances c.new.ensures c.padded.ensures)

@@ -1,26 +1,25 @@
--- `street::checks::numbers` meets its contract: a check that refuses is the first fault of the list, since all before it passed; the counts that passed tell what each one
--- requires.
-use mathlib.Core.Path.{sym, ◌∙◌}
+-- `street::checks::numbers` meets its contract: the counts that passed tell each list's length.
+use Rattle.std.proofs.Common.{◌≡◌, ◌≤◌, sym, subst, Ok}
 use native.Mathlib.Omega.{arith}
-use Rattle.street.proofs.CheckLaws.{counted, last_check}
+use Rattle.street.specs.Lists.{Lists}
+use Rattle.street.specs.Checks.{counts}
+use Rattle.street.proofs.CheckLaws.{counted}
 use Rattle.street.proofs.checks.numbers.Goals as goal
 
-pub red-stopped-requires : goal.red-stopped-requires
-red-stopped-requires c = let n = counted _ _ _ _ c.requires.1 in omega arith
+pub red-requires : goal.red-requires
+red-requires c =
+    let told = subst (λ (l : Lists). (1 ≤ l.cycle) × (counts l ≡ Ok tt)) (sym c.street.view_is) c.requires in
+    let n = counted _ _ _ _ told.1 in
+    (told.0, n.most)
 
-pub returns-in-Refused : goal.returns-in-Refused
-returns-in-Refused c = simp (sym c.red-stopped.ensures ∙ c.in-Refused.is)
-
-pub distance-placed-requires : goal.distance-placed-requires
-distance-placed-requires c = let n = counted _ _ _ _ c.requires.1 in omega arith
-
-pub returns-in-Refused-placed : goal.returns-in-Refused-placed
-returns-in-Refused-placed c =
-    simp (sym c.red-stopped.ensures ∙ c.in_default.is, sym c.distance-placed.ensures ∙ c.in-Refused-placed.is)
+pub distance-requires : goal.distance-requires
+distance-requires c =
+    let told = subst (λ (l : Lists). counts l ≡ Ok tt) (sym c.street.view_is) c.requires.1 in
+    let n = counted _ _ _ _ told in
+    omega arith
 
 pub speed-requires : goal.speed-requires
-speed-requires c = let n = counted _ _ _ _ c.requires.1 in omega arith
-
-pub returns : goal.returns
-returns c =
-    simp (sym c.red-stopped.ensures ∙ c.in_default.is, sym c.distance-placed.ensures ∙ c.in_default-placed.is, c.speed.ensures, last_check)
+speed-requires c =
+    let told = subst (λ (l : Lists). counts l ≡ Ok tt) (sym c.street.view_is) c.requires.1 in
+    let n = counted _ _ _ _ told in
+    (omega arith, omega arith)
