@@ -44,23 +44,20 @@ pub fn room(signals: usize, lent: usize) -> Result<(), Refusal>
     Ok(())
 }
 
-pub fn cycle(ticks: u32) -> Result<(), Refusal>
-    ensures { result ≡ cycle_check ticks }
-{
-    if ticks < Street::MIN_CYCLE {
-        return refused(Code::Cycle, 0);
-    }
-    if ticks > Street::MAX_CYCLE {
-        return refused(Code::Cycle, 0);
-    }
-    Ok(())
-}
-
 // Whether a number lies outside its range, both ends of which belong to it.
 fn outside(low: u32, high: u32, x: u32) -> bool
     ensures { result ≡ not (within low high x) }
 {
     !(low..=high).contains(&x)
+}
+
+pub fn cycle(ticks: u32) -> Result<(), Refusal>
+    ensures { result ≡ cycle_check ticks }
+{
+    if outside(Street::MIN_CYCLE, Street::MAX_CYCLE, ticks) {
+        return refused(Code::Cycle, 0);
+    }
+    Ok(())
 }
 
 pub fn red(ticks: u32, reds: &[u32]) -> Result<(), Refusal>

@@ -1,11 +1,11 @@
 -- Laws of volumes. A platoon is the least number of halves that is enough for its volume, so that a volume fits a width exactly when V·C·h is at most 18,000 times the width. Of all volumes that fit there is
 -- just one largest, and each of the others is below it. And what a passed check tells: the numbers are so small that their product is too. Assumes nothing.
 use Rattle.std.specs.Prelude.{Ok}
-use Prim.Native.Nat.{ℕ, ◌+◌, ◌-◌, ◌*◌, ◌/◌, ◌≤◌, ◌<◌}
+use Prim.Native.Nat.{ℕ, ◌+◌, ◌-◌, ◌*◌, ◌/◌, ◌≤◌, ◌<◌, min}
 use mathlib.Core.Path.{◌≡◌}
 use native.Mathlib.Omega.{arith}
 use native.Mathlib.Decide.{dec_le}
-use native.Mathlib.Nat.{mod-lt, mod-add-div', mul-le-mul, mul-le-mul_right}
+use native.Mathlib.Nat.{mod-lt, mod-add-div', mul-le-mul, mul-le-mul_right, min-eq_left, min-eq_right}
 use lib.Dec.{leb}
 use borrow.Author.Tests.{leb-true}
 use Rattle.street.specs.Limits.{max_cycle, max_volume, min_headway, max_headway}
@@ -65,14 +65,18 @@ largest_only C h w volume other is too =
     omega (arith, largest_of_all C h w volume other is too.most too.fits, largest_of_all C h w other volume too is.most is.fits)
 
 -- by division: as many vehicles as fit, at most 10,000
-pub largest_part : (C h w volume : ℕ) → volume * (C * h) ≤ half_hour * w → half_hour * w < (volume + 1) * (C * h) → volume ≤ max_volume → Largest C h w volume
-largest_part C h w volume low high small =
-    record { most = small; fits = fits_by C h volume w (omega arith); next = λ l. past_by C h (volume + 1) w (omega arith) }
-
-pub largest-most : (C h w volume : ℕ) → volume * (C * h) ≤ half_hour * w → max_volume ≤ volume → Largest C h w max_volume
-largest-most C h w volume low large =
-    let step = mul-le-mul_right (C * h) large in
-    record { most = omega arith; fits = fits_by C h max_volume w (omega arith); next = λ l. absurd (omega arith) }
+pub largest_part : (C h w volume : ℕ) → volume * (C * h) ≤ half_hour * w → half_hour * w < (volume + 1) * (C * h) → Largest C h w (min volume max_volume)
+largest_part C h w volume low high = go (dec_le volume max_volume)
+  where
+    go : Dec (volume ≤ max_volume) → Largest C h w (min volume max_volume)
+    go (yes small) =
+        rw (min-eq_left small)
+        (record { most = small; fits = fits_by C h volume w (omega arith); next = λ l. past_by C h (volume + 1) w (omega arith) })
+    go (no large) =
+        let above : max_volume ≤ volume = omega arith in
+        let step = mul-le-mul_right (C * h) above in
+        rw (min-eq_right above)
+        (record { most = omega arith; fits = fits_by C h max_volume w (omega arith); next = λ l. absurd (omega arith) })
 
 -- what the check tells of volumes and a headway that passed
 pub record Judged (out back h : ℕ) : Type 0 where

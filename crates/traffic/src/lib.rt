@@ -37,7 +37,7 @@ pub fn platoon(cycle: u32, headway: u32, volume: u32) -> u32
     ensures { result ≡ platoon_of cycle headway volume }
 {
     let product = (volume as u64) * (cycle as u64) * (headway as u64);
-    ((product + (HALF_HOUR - 1)) / HALF_HOUR) as u32
+    product.div_ceil(HALF_HOUR) as u32
 }
 
 // The largest volume whose platoon fits a width. Where a vehicle takes no time, every volume fits.
@@ -45,12 +45,9 @@ pub fn largest(cycle: u32, headway: u32, width: u32) -> u32
     ensures { Largest cycle headway width result }
 {
     let each = (cycle as u64) * (headway as u64);
-    if each < 1 {
+    if each == 0 {
         return Street::MAX_VOLUME;
     }
     let volume = HALF_HOUR * (width as u64) / each;
-    if volume > (Street::MAX_VOLUME as u64) {
-        return Street::MAX_VOLUME;
-    }
-    volume as u32
+    volume.min(Street::MAX_VOLUME as u64) as u32
 }

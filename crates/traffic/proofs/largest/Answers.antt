@@ -4,7 +4,7 @@ use Prim.Native.Nat.{◌-◌, ◌*◌, ◌/◌, ◌≤◌, ◌^◌}
 use native.Mathlib.Omega.{arith}
 use native.Mathlib.Nat.{mul-le-mul}
 use Rattle.traffic.specs.Volumes.{half_hour}
-use Rattle.traffic.proofs.VolumeLaws.{quotient, largest_part, largest-most}
+use Rattle.traffic.proofs.VolumeLaws.{quotient, largest_part}
 use Rattle.traffic.proofs.largest.Goals as goal
 
 pub overflow_mul-each : goal.overflow_mul-each
@@ -13,14 +13,8 @@ overflow_mul-each c =
     let near : c.args.headway ≤ 2 ^ 32 - 1 = omega arith in
     omega (arith, mul-le-mul short near)
 
-pub returns-then-volume : goal.returns-then-volume
-returns-then-volume c =
-    let a = c.args in
-    let part = quotient (half_hour * a.width) (a.cycle * a.headway) (omega arith) in
-    largest-most a.cycle a.headway a.width (half_hour * a.width / (a.cycle * a.headway)) part.0 (omega arith)
-
 pub returns : goal.returns
 returns c =
     let a = c.args in
     let part = quotient (half_hour * a.width) (a.cycle * a.headway) (omega arith) in
-    largest_part a.cycle a.headway a.width (half_hour * a.width / (a.cycle * a.headway)) part.0 part.1 (omega arith)
+    rw c.min.ensures (largest_part a.cycle a.headway a.width (half_hour * a.width / (a.cycle * a.headway)) part.0 part.1)

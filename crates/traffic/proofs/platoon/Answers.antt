@@ -15,11 +15,6 @@ overflow_mul-product-2 c =
     let small : (c.args.volume * c.args.cycle ≤ max_volume * max_cycle) × (c.args.volume * c.args.cycle * c.args.headway ≤ max_volume * max_cycle * max_headway) = product_small c.args.cycle c.args.headway c.args.volume c.requires.0 c.requires.1 c.requires.2 in
     omega (arith, small)
 
-pub overflow_add-result : goal.overflow_add-result
-overflow_add-result c =
-    let small : (c.args.volume * c.args.cycle ≤ max_volume * max_cycle) × (c.args.volume * c.args.cycle * c.args.headway ≤ max_volume * max_cycle * max_headway) = product_small c.args.cycle c.args.headway c.args.volume c.requires.0 c.requires.1 c.requires.2 in
-    omega (arith, small)
-
 pub overflow_cast-result : goal.overflow_cast-result
 overflow_cast-result c =
     let small : (c.args.volume * c.args.cycle ≤ max_volume * max_cycle) × (c.args.volume * c.args.cycle * c.args.headway ≤ max_volume * max_cycle * max_headway) = product_small c.args.cycle c.args.headway c.args.volume c.requires.0 c.requires.1 c.requires.2 in

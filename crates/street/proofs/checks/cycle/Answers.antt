@@ -1,16 +1,13 @@
--- `street::checks::cycle` meets its contract: the two tests decide the definition.
-use borrow.Author.Tests.{le-leb, lt-leb}
+-- `street::checks::cycle` meets its contract: where the number lies decides the definition.
+use Rattle.std.proofs.lemmas.Bool.{not-true, not-false}
+use Rattle.std.proofs.Common.{sym, ◌∙◌}
 use Rattle.street.specs.Checks.{cycle_check}
 use Rattle.street.proofs.checks.cycle.Goals as goal
 
-pub returns-then-ticks-lt-MIN_CYCLE : goal.returns-then-ticks-lt-MIN_CYCLE
+pub returns-then-outside : goal.returns-then-outside
 unfolding cycle_check
-returns-then-ticks-lt-MIN_CYCLE c = simp (c.refused.ensures, lt-leb _ _ c.if-ticks-lt-MIN_CYCLE.true)
-
-pub returns-then-ticks-gt-MAX_CYCLE : goal.returns-then-ticks-gt-MAX_CYCLE
-unfolding cycle_check
-returns-then-ticks-gt-MAX_CYCLE c = simp (c.refused-then-ticks-gt-MAX_CYCLE.ensures, le-leb _ _ c.if-ticks-lt-MIN_CYCLE.false, lt-leb _ _ c.if-ticks-gt-MAX_CYCLE.true)
+returns-then-outside c = simp (c.refused.ensures, not-true _ (sym c.outside.ensures ∙ c.if-outside.true))
 
 pub returns : goal.returns
 unfolding cycle_check
-returns c = simp (le-leb _ _ c.if-ticks-lt-MIN_CYCLE.false, le-leb _ _ c.if-ticks-gt-MAX_CYCLE.false)
+returns c = simp (not-false _ (sym c.outside.ensures ∙ c.if-outside.false))
