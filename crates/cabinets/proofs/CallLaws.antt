@@ -9,7 +9,7 @@ use lib.ListN.{length, drop, get_or}
 use lib.Seq.{drop-append_seam}
 use Rattle.circle.specs.Over.{list_below}
 use Rattle.circle.proofs.Numbers.{length_list_below, list_ext}
-use Rattle.street.specs.Limits.{max_cycle}
+use Rattle.street.specs.Limits.{min_cycle, max_cycle}
 use Rattle.street.specs.Lists.{Lists, signals}
 use Rattle.street.specs.Checks.{or_next, first_fault, opening_checks, number_checks, plan_checks, written}
 use Rattle.street.specs.Streets.{timed, m}
@@ -95,11 +95,11 @@ module _
       told : Told l (length entry) (shift_of request (timed l)) mid a
       told = reply_told request l entry mid a call (ap (λ x. (plan_numbers x).code) planned)
 
-      pub convert_ready : (l.cycle ≤ max_cycle) × (0 < 2 * l.cycle) × Offsets l.cycle l.reds mid
+      pub convert_ready : (l.cycle ≤ max_cycle) × (min_cycle ≤ l.cycle) × Offsets l.cycle l.reds mid
       convert_ready =
           let ok = in_limits l (length entry) told.passed in (
             ok.cycle.high,
-            omega (arith, ok.cycle.low),
+            ok.cycle.low,
             record {
               long = told.long;
               offset = λ j h. omega (arith, told.same j h, offsets_below l (length entry) told.passed (shift_of request (timed l)) j);
@@ -130,3 +130,13 @@ module _
                 ∙ ap₂ ◌++◌ (list_ext n _ (seconds_of 0 s (moved_offset shift s)) (λ j h. ap (λ (f : ℕ). second_of l.cycle 0 f (get_or l.reds j 0)) (told.same j h))) tail
                 ∙ sym (ap (λ v. written v seconds entry) (same ∙ passed));
           }
+
+      -- the same of the lists as they are held
+      pub held_converted :
+          (held : Lists) (exit : List ℕ) → held ≡ l →
+          exit ≡ list_below (signals held) (λ j. second_of held.cycle 0 (get_or mid j 0) (get_or held.reds j 0)) ++ drop (signals held) mid →
+          InSeconds request l entry exit (Ok p)
+      held_converted held exit is converted =
+          plan_converted exit
+          (converted
+          ∙ ap (λ (x : Lists). list_below (signals x) (λ j. second_of x.cycle 0 (get_or mid j 0) (get_or x.reds j 0)) ++ drop (signals x) mid) is)

@@ -71,6 +71,13 @@ next_digit x d low digit small =
     let r : (10 * x + d) % 10 ≡ d = omega arith in
     decimal-more (10 * x + d) small (omega arith) ∙ rw (q, r)
 
+-- a number of 32 bits has one digit to ten
+pub decimal_some : (x : ℕ) → 1 ≤ length (decimal x)
+decimal_some x =
+    by_size x 10
+    (λ s. rw (one_digit 19 x s) (omega arith))
+    (λ m. rw (more_digits 19 x m) (simp length-append (omega arith)))
+
 -- below ten to the k + 1 there are at most k + 1 digits
 pub at_most : (k x : ℕ) → x < 2 ^ 32 → x < 10 ^ suc k → length (decimal x) ≤ suc k
 at_most k x small h = rw (places 19 k x (omega arith) h) (few (suc k) x)

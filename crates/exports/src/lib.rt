@@ -14,6 +14,7 @@ use flat::{
     CorbatanMeasure, CorbatanPlan, CorbatanSheet, CorbatanText, CorbatanVolumes, CorbatanWriting,
 };
 use plans::Request;
+use sheet::Sheet;
 use street::{Lists, Street};
 
 // The equal plan.
@@ -113,6 +114,14 @@ pub extern "C" fn corbatan_volumes(
     ))
 }
 
+// The plan of a request in whole seconds, in C's struct. The first entries of the lent list become the seconds at which the signals turn
+// green; a refusal leaves the list as it was (02, 2026-06).
+fn seconds_for(request: Request, street: &Lists, seconds: &mut [u32]) -> CorbatanPlan
+    ensures { FlatSeconds request street.now seconds.old seconds.new result }
+{
+    CorbatanPlan::from(cabinets::plan_for(request, street, seconds))
+}
+
 // The equal plan in whole seconds.
 #[unsafe(no_mangle)]
 pub extern "C" fn corbatan_equal_seconds(
@@ -126,7 +135,7 @@ pub extern "C" fn corbatan_equal_seconds(
     ensures { FlatSeconds Equal (typed cycle reds.now distances.now outbound.now inbound.now) seconds.old seconds.new result }
 {
     let street = Lists::new(cycle, reds, distances, outbound, inbound);
-    CorbatanPlan::from(cabinets::plan_for(Request::Equal, &street, seconds))
+    seconds_for(Request::Equal, &street, seconds)
 }
 
 // The plan with a requested outbound width, in whole seconds.
@@ -143,7 +152,7 @@ pub extern "C" fn corbatan_outbound_seconds(
     ensures { FlatSeconds (Outbound width) (typed cycle reds.now distances.now outbound.now inbound.now) seconds.old seconds.new result }
 {
     let street = Lists::new(cycle, reds, distances, outbound, inbound);
-    CorbatanPlan::from(cabinets::plan_for(Request::Outbound(width), &street, seconds))
+    seconds_for(Request::Outbound(width), &street, seconds)
 }
 
 // The plan with a requested inbound width, in whole seconds.
@@ -160,7 +169,7 @@ pub extern "C" fn corbatan_inbound_seconds(
     ensures { FlatSeconds (Inbound width) (typed cycle reds.now distances.now outbound.now inbound.now) seconds.old seconds.new result }
 {
     let street = Lists::new(cycle, reds, distances, outbound, inbound);
-    CorbatanPlan::from(cabinets::plan_for(Request::Inbound(width), &street, seconds))
+    seconds_for(Request::Inbound(width), &street, seconds)
 }
 
 // The plan from the lengths of two platoons, in whole seconds.
@@ -178,11 +187,11 @@ pub extern "C" fn corbatan_platoons_seconds(
     ensures { FlatSeconds (Platoons outbound_platoon inbound_platoon) (typed cycle reds.now distances.now outbound.now inbound.now) seconds.old seconds.new result }
 {
     let street = Lists::new(cycle, reds, distances, outbound, inbound);
-    CorbatanPlan::from(cabinets::plan_for(
+    seconds_for(
         Request::Platoons(outbound_platoon, inbound_platoon),
         &street,
         seconds,
-    ))
+    )
 }
 
 // The plan for two volumes at a headway, in whole seconds. The largest volumes do not depend on them: `corbatan_volumes` has these.
@@ -201,11 +210,11 @@ pub extern "C" fn corbatan_volumes_seconds(
     ensures { FlatSeconds (Volumes outbound_volume inbound_volume headway) (typed cycle reds.now distances.now outbound.now inbound.now) seconds.old seconds.new result }
 {
     let street = Lists::new(cycle, reds, distances, outbound, inbound);
-    CorbatanPlan::from(cabinets::plan_for(
+    seconds_for(
         Request::Volumes(outbound_volume, inbound_volume, headway),
         &street,
         seconds,
-    ))
+    )
 }
 
 // The measure of given offsets, which are an input here and not lent.
@@ -224,12 +233,14 @@ pub extern "C" fn corbatan_measure(
     CorbatanMeasure::from(bands::measure(&measured, offsets))
 }
 
-// The numbers of a sheet's bytes.
+// The numbers of a sheet's bytes. They are read where they stand and copied once, into the reply.
 #[unsafe(no_mangle)]
 pub extern "C" fn corbatan_read(bytes: &[u8]) -> CorbatanSheet
     ensures { FlatReads bytes.now result }
 {
-    CorbatanSheet::from(sheet::read(bytes))
+    let mut sheet = Sheet::NONE;
+    let verdict = sheet::fill(bytes, &mut sheet);
+    flat::reading(verdict, &sheet)
 }
 
 // The numbers of a survey's rows, each column in a list of its own with an entry for each row (02, 2026-04).

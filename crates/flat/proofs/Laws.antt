@@ -1,16 +1,18 @@
 -- The fields of C's structs by the numbers of the library's replies. Assumes nothing.
 use Rattle.std.specs.Prelude.{Ok, Err}
 use Prim.Native.Nat.{ℕ}
-use mathlib.Core.Path.{◌≡◌, ap}
+use mathlib.Core.Path.{◌≡◌, ap, ap₂}
 use lib.IntN.{ℤ}
-use Rattle.street.specs.Codes.{code_number}
+use Rattle.street.specs.Codes.{code_number, code_of, place_of}
+use Rattle.street.specs.Verdicts.{verdict_of}
 use Rattle.street.specs.declared.Refusal.{Refusal}
+use Rattle.sheet.specs.Reading.{sheet_beside, Reading}
 use Rattle.plans.specs.Answers.{no_plan}
 use Rattle.plans.specs.declared.Plan.{Plan}
 use Rattle.bands.specs.Measure.{no_band}
 use Rattle.flat.specs.declared.CorbatanPlan.{CorbatanPlan}
 use Rattle.flat.specs.declared.CorbatanVolumes.{CorbatanVolumes}
-use Rattle.flat.specs.Flat.{plan_fields, flat_plan, measure_fields, flat_measure, writing_fields, flat_writing}
+use Rattle.flat.specs.Flat.{plan_fields, flat_plan, measure_fields, flat_measure, flat_sheet, flat_reading, writing_fields, flat_writing}
 
 -- a plan with another B
 abbrev with_b : Plan → ℤ → Plan
@@ -51,3 +53,9 @@ beside plan out back = record { plan = plan; outbound_volume = out; inbound_volu
 
 pub carried_fields : (out back : ℕ) (p q : CorbatanPlan) → p ≡ q → beside p out back ≡ beside q out back
 carried_fields out back p q e = ap (λ x. beside x out back) e
+
+-- a reading with its verdict in numbers
+pub reading_flat :
+    (r : Reading) (code place : ℕ) → code ≡ code_of (verdict_of r) → place ≡ place_of (verdict_of r) →
+    flat_sheet code place (sheet_beside r) ≡ flat_reading r
+reading_flat r code place k q = ap₂ (λ n p. flat_sheet n p (sheet_beside r)) k q

@@ -1,11 +1,10 @@
 -- The library's replies as C's flat structs: the numbers that the library's own definitions give each reply, one field for each.
-use Rattle.std.specs.Prelude.{ℕ, [], Result, Ok, Err}
-use Rattle.street.specs.Lists.{typed}
+use Rattle.std.specs.Prelude.{ℕ, Result, Ok, Err}
 use Rattle.street.specs.Codes.{code_of, place_of}
 use Rattle.street.specs.Verdicts.{verdict_of}
 use Rattle.street.specs.declared.Refusal.{Refusal}
 use Rattle.sheet.specs.declared.Sheet.{Sheet}
-use Rattle.sheet.specs.Reading.{Reading, sheet_of}
+use Rattle.sheet.specs.Reading.{Reading, sheet_beside}
 use Rattle.writer.specs.Writing as writer
 use Rattle.writer.specs.Writing.{Writing}
 use Rattle.plans.specs.Answers as plans
@@ -72,15 +71,6 @@ flat_sheet code place s =
       outbound = s.outbound;
       inbound = s.inbound;
     }
-
--- a sheet of which every number is 0
-abbrev pub no_sheet : Sheet
-no_sheet = sheet_of (typed 0 [] [] [] [])
-
--- the sheet of a reading, if there is one
-abbrev pub sheet_beside : Reading → Sheet
-sheet_beside (Ok s) = s
-sheet_beside (Err f) = no_sheet
 
 -- the sheet of a reading with the code and place of its refusal, 0 and 0 where there is none
 abbrev pub flat_reading : Reading → CorbatanSheet

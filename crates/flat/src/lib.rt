@@ -3,6 +3,7 @@
 #![tactic(auto)]
 
 ghost use Rattle.std.specs.Prelude.{◌≡◌};
+ghost use Rattle.street.specs.Codes.{code_of, place_of};
 ghost use Rattle.flat.specs.Flat.{flat_plan, flat_carried, flat_measure, flat_sheet, flat_reading, flat_writing, flat_text};
 
 use bands::Measured;
@@ -176,10 +177,14 @@ impl From<Result<usize, Refusal>> for CorbatanWriting {
     }
 }
 
-// A sheet's numbers beside a code and a place.
-fn marked(code: u32, place: u32, s: Sheet) -> CorbatanSheet
-    ensures { result ≡ flat_sheet code place s }
+// A reading in numbers: the code and place of its verdict, both 0 where nothing was refused, and the numbers beside it.
+pub fn reading(verdict: Result<(), Refusal>, sheet: &Sheet) -> CorbatanSheet
+    ensures { result ≡ flat_sheet (code_of verdict) (place_of verdict) sheet.now }
 {
+    let (code, place) = match verdict {
+        Ok(()) => (0, 0),
+        Err(f) => (u32::from(f.code), f.place),
+    };
     let Sheet {
         signals,
         cycle,
@@ -187,7 +192,7 @@ fn marked(code: u32, place: u32, s: Sheet) -> CorbatanSheet
         distances,
         outbound,
         inbound,
-    } = s;
+    } = *sheet;
     CorbatanSheet {
         code,
         place,
@@ -205,19 +210,11 @@ impl From<Result<Sheet, Refusal>> for CorbatanSheet {
     ghost from_gives = { λ answer flat. flat ≡ flat_reading answer };
 
     fn from(answer: Result<Sheet, Refusal>) -> CorbatanSheet {
-        match answer {
-            Ok(s) => marked(0, 0, s),
-            Err(f) => CorbatanSheet {
-                code: u32::from(f.code),
-                place: f.place,
-                signals: 0,
-                cycle: 0,
-                reds: [0; Street::MAX_SIGNALS],
-                distances: [0; Street::MAX_SIGNALS],
-                outbound: [0; Street::MAX_SIGNALS],
-                inbound: [0; Street::MAX_SIGNALS],
-            },
-        }
+        let (verdict, sheet) = match &answer {
+            Ok(sheet) => (Ok(()), sheet),
+            Err(f) => (Err(*f), &Sheet::NONE),
+        };
+        reading(verdict, sheet)
     }
 }
 

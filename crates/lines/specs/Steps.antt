@@ -1,6 +1,5 @@
 -- Steps: what the library's functions say to each other and to the proofs. No contract of a public call cites it.
-use Rattle.std.specs.Prelude.{ℕ}
-use Rattle.arrayvec.specs.ArrayVec.{array_vec_len}
+use Rattle.std.specs.Prelude.{◌≡◌, ℕ, List, drop}
 use Rattle.lines.specs.declared.Call.{Call}
 use Rattle.lines.specs.declared.Call.TheVariants.{Measure}
 
@@ -14,5 +13,10 @@ max_room = 4096
 
 -- how many numbers are kept for a call
 abbrev pub entries_of : Call → ℕ
-entries_of (Measure offsets) = array_vec_len offsets
+entries_of (Measure offsets) = offsets.count
 entries_of _ = 0
+
+-- what stands from some place of the bytes on, to their end
+pub record IsRest (bytes rest : List ℕ) : Type 0 where
+  pub place : ℕ
+  pub stands : rest ≡ drop place bytes

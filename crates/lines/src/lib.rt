@@ -3,19 +3,20 @@
 #![tactic(auto)]
 
 ghost use Rattle.std.specs.Prelude.{◌≤◌, ◌<◌, length, IfSome};
-ghost use Rattle.arrayvec.specs.ArrayVec.{array_vec_len};
-ghost use Rattle.lines.specs.Steps.{max_entries, max_room, entries_of};
+ghost use Rattle.lines.specs.Steps.{max_entries, max_room, entries_of, IsRest};
 
-use arrayvec::ArrayVec;
+use list::Listed;
 use street::Street;
 use widths::Request;
 
+mod list;
+
 // The offsets that a line names.
-pub type Offsets = ArrayVec<u32, { Asked::MAX_ENTRIES }>;
+pub type Offsets = Listed;
 
 // What a line asks for: a plan, a plan in whole seconds, the measure of its numbers as offsets, the sheet's own bytes, or the plan of rows
 // at a cycle.
-#[derive(Drop)]
+#[derive(Clone, Copy)]
 pub enum Call {
     Plan(Request),
     Seconds(Request),
@@ -25,7 +26,7 @@ pub enum Call {
 }
 
 // What the line of a case asks for, how many entries are lent, and what stands below the line, a sheet's bytes or a survey's rows.
-#[derive(Drop)]
+#[derive(Clone, Copy)]
 pub struct Asked<'a> {
     pub call: Call,
     pub room: usize,
@@ -51,7 +52,8 @@ pub enum Kind {
 impl Kind {
     // The kind that the word at the start names.
     fn read(bytes: &[u8]) -> Option<(Kind, &[u8])>
-        ensures { IfSome result (λ r. length r.1.now ≤ length bytes.now) }
+        ensures rest { IfSome result (λ r. IsRest bytes.now r.1.now) }
+        ensures length { IfSome result (λ r. length r.1.now ≤ length bytes.now) }
     {
         let (word, rest) = word(bytes)?;
         match word {
@@ -96,7 +98,8 @@ impl Lent {
     // How many entries are lent: the number that the line names, up to the most, and the usual one where it names none.
     fn room(self, bytes: &[u8]) -> Option<(usize, &[u8])>
         ensures room { IfSome result (λ r. r.0 ≤ max_room) }
-        ensures rest { IfSome result (λ r. length r.1.now ≤ length bytes.now) }
+        ensures rest { IfSome result (λ r. IsRest bytes.now r.1.now) }
+        ensures length { IfSome result (λ r. length r.1.now ≤ length bytes.now) }
     {
         let Some(named) = bytes.strip_prefix(b" room ") else {
             return Some((self.usual, bytes));
@@ -112,7 +115,8 @@ impl Lent {
     // A request whose line ends here, after the number of entries where it names one.
     fn asked(self, call: Call, bytes: &[u8]) -> Option<Asked<'_>>
         requires { entries_of call ≤ max_entries }
-        ensures { IfSome result (λ a. length a.below.now ≤ length bytes.now) }
+        ensures below { IfSome result (λ a. IsRest bytes.now a.below.now) }
+        ensures length { IfSome result (λ a. length a.below.now ≤ length bytes.now) }
     {
         let (room, rest) = self.room(bytes)?;
         let below = rest.strip_prefix(b"\n")?;
@@ -122,51 +126,69 @@ impl Lent {
 
 // The word at the start, up to a space or the line's end.
 fn word(bytes: &[u8]) -> Option<(&[u8], &[u8])>
-    ensures { IfSome result (λ r. length r.1.now ≤ length bytes.now) }
+    ensures rest { IfSome result (λ r. IsRest bytes.now r.1.now) }
+    ensures length { IfSome result (λ r. length r.1.now ≤ length bytes.now) }
 {
     let end = bytes.iter().position(|byte| matches!(*byte, b' ' | b'\n'))?;
     Some(bytes.split_at(end))
 }
 
+// The digit at the start.
+fn digit(bytes: &[u8]) -> Option<(u32, &[u8])>
+    ensures rest { IfSome result (λ r. IsRest bytes.now r.1.now) }
+    ensures length { IfSome result (λ r. length r.1.now < length bytes.now) }
+{
+    let (byte, rest) = bytes.split_first()?;
+    match *byte {
+        b'0'..=b'9' => Some((u32::from(*byte - b'0'), rest)),
+        _ => None,
+    }
+}
+
 // The digits at the start, as many as there are, if they make a number below two to the 32.
 fn digits(bytes: &[u8]) -> Option<(u32, &[u8])>
-    ensures { IfSome result (λ r. length r.1.now ≤ length bytes.now) }
+    ensures rest { IfSome result (λ r. IsRest bytes.now r.1.now) }
+    ensures length { IfSome result (λ r. length r.1.now ≤ length bytes.now) }
 {
-    let count = bytes
-        .iter()
-        .take_while(|byte| byte.is_ascii_digit())
-        .count();
-    let (text, rest) = bytes.split_at(count);
-    let value = str::from_utf8(text).ok()?.parse().ok()?;
+    let (mut value, mut rest) = digit(bytes)?;
+    while let Some((next, after)) = digit(rest) {
+        value = value.checked_mul(10)?.checked_add(next)?;
+        rest = after;
+    }
     Some((value, rest))
 }
 
 // A number after one space.
 fn number(bytes: &[u8]) -> Option<(u32, &[u8])>
-    ensures { IfSome result (λ r. length r.1.now < length bytes.now) }
+    ensures rest { IfSome result (λ r. IsRest bytes.now r.1.now) }
+    ensures length { IfSome result (λ r. length r.1.now < length bytes.now) }
 {
     digits(bytes.strip_prefix(b" ")?)
 }
 
 // Numbers, each after one space, as many as there are. Those past the most that are kept are passed over.
 fn numbers(bytes: &[u8]) -> (Offsets, &[u8])
-    ensures count { array_vec_len result.0 ≤ max_entries }
-    ensures rest { length result.1.now ≤ length bytes.now }
+    ensures count { result.0.count ≤ max_entries }
+    ensures rest { IsRest bytes.now result.1.now }
+    ensures length { length result.1.now ≤ length bytes.now }
 {
-    let mut list = Offsets::new();
+    let mut entries = [0; Asked::MAX_ENTRIES];
+    let mut count = 0;
     let mut rest = bytes;
     while let Some((value, after)) = number(rest) {
-        if list.len() < Asked::MAX_ENTRIES {
-            list.push(value);
+        if count < Asked::MAX_ENTRIES {
+            entries[count] = value;
+            count += 1;
         }
         rest = after;
     }
-    (list, rest)
+    (Listed { entries, count }, rest)
 }
 
 // The plan that the word at the start asks for, with the numbers that belong to it.
 fn plan(bytes: &[u8]) -> Option<(Request, &[u8])>
-    ensures { IfSome result (λ r. length r.1.now ≤ length bytes.now) }
+    ensures rest { IfSome result (λ r. IsRest bytes.now r.1.now) }
+    ensures length { IfSome result (λ r. length r.1.now ≤ length bytes.now) }
 {
     let (word, rest) = word(bytes)?;
     match word {
@@ -196,7 +218,8 @@ fn plan(bytes: &[u8]) -> Option<(Request, &[u8])>
 
 // The request of a case, or none where its line is not served.
 pub fn request(case: &[u8]) -> Option<Asked<'_>>
-    ensures { IfSome result (λ a. length a.below.now ≤ length case.now) }
+    ensures below { IfSome result (λ a. IsRest case.now a.below.now) }
+    ensures length { IfSome result (λ a. length a.below.now ≤ length case.now) }
 {
     let (word, rest) = word(case)?;
     match word {
@@ -226,7 +249,9 @@ pub fn request(case: &[u8]) -> Option<Asked<'_>>
 }
 
 // What a hexadecimal digit stands for, its letters being small ones.
-fn hex_digit(byte: u8) -> Option<u8> {
+fn hex_digit(byte: u8) -> Option<u8>
+    ensures { IfSome result (λ d. d ≤ 15) }
+{
     match byte {
         b'0'..=b'9' => Some(byte - b'0'),
         b'a'..=b'f' => Some(byte - b'a' + 10),
@@ -236,7 +261,8 @@ fn hex_digit(byte: u8) -> Option<u8> {
 
 // The bits of a float after one space: 16 hexadecimal digits, or the word for a NaN.
 fn pattern(bytes: &[u8]) -> Option<(u64, &[u8])>
-    ensures { IfSome result (λ r. length r.1.now < length bytes.now) }
+    ensures rest { IfSome result (λ r. IsRest bytes.now r.1.now) }
+    ensures length { IfSome result (λ r. length r.1.now < length bytes.now) }
 {
     if let Some(rest) = bytes.strip_prefix(b" nan") {
         return Some((0x7ff8_0000_0000_0000, rest));
@@ -251,7 +277,8 @@ fn pattern(bytes: &[u8]) -> Option<(u64, &[u8])>
 
 // The row whose line stands at the start, and what stands below the line.
 pub fn first_row(bytes: &[u8]) -> Option<(RowLine, &[u8])>
-    ensures { IfSome result (λ r. length r.1.now < length bytes.now) }
+    ensures rest { IfSome result (λ r. IsRest bytes.now r.1.now) }
+    ensures length { IfSome result (λ r. length r.1.now < length bytes.now) }
 {
     let (kind, rest) = Kind::read(bytes)?;
     let (position, rest) = pattern(rest)?;

@@ -1,7 +1,7 @@
 -- What is promised of a call's reply: of the numbers in every reply with code 0 that the call's contract allows, and of the offsets that the call leaves in the lent list. One notion says what a
 -- plan keeps, and it is promised at rounded times with nothing lost and at exact times with m halves lost (demand 3); the equal plan is the published method's own, platoons that differ leave a side 0
 -- only beside g, and no volume beyond the one that a reply names fits its band (demand 2).
-use Rattle.std.specs.Prelude.{ℕ, ◌+◌, ◌-◌, ◌*◌, ◌≤◌, ◌<◌, min, ◌≡◌, true, List, pos, ◌-ℤ◌, length, get_or, Ok}
+use Rattle.std.specs.Prelude.{ℕ, ◌+◌, ◌-◌, ◌*◌, ◌≤◌, ◌<◌, min, ◌≡◌, true, List, pos, ◌-ℤ◌, length, get_or, Result, Ok}
 use Rattle.circle.specs.Man.{man}
 use Rattle.circle.specs.Method.{B, reference, offset, equal_width, red_end, red_start}
 use Rattle.circle.specs.Bands.{Way, clear, width}
@@ -9,6 +9,7 @@ use Rattle.circle.specs.Moved.{g}
 use Rattle.street.specs.Limits.{max_volume}
 use Rattle.street.specs.Lists.{Lists, signals}
 use Rattle.street.specs.Checks.{plan_checks}
+use Rattle.street.specs.declared.Refusal.{Refusal}
 use Rattle.street.specs.Streets.{timed, m}
 use Rattle.traffic.specs.Volumes.{platoon_of}
 use Rattle.widths.specs.Moved.{platoon_shift, shift_of}
@@ -19,7 +20,7 @@ use Rattle.widths.specs.declared.Shift.TheVariants.{Unmoved, Outbound, Inbound}
 use Rattle.plans.specs.Answers.{plan_numbers}
 use Rattle.street.specs.Verdicts.{verdict_of}
 use Rattle.plans.specs.Requests.{Requested}
-use Rattle.plans.specs.Volumes.{Carries}
+use Rattle.plans.specs.Volumes.{carried_plan, carried_of, Carries}
 use Rattle.plans.specs.Answers.{Answer}
 use Rattle.plans.specs.declared.Plan.{Plan}
 use Rattle.plans.specs.declared.Carried.{Carried}
@@ -108,5 +109,6 @@ FitsUpTo C h w most =
 -- 5. The volumes beside a plan are the largest that its bands take, by the widths that the same reply has (02, 2026-03)
 abbrev pub LargestVolumes : Type 0
 LargestVolumes =
-    (out back h : ℕ) (l : Lists) (entry exit : List ℕ) (c : Carried) → Carries out back h l entry exit (Ok c) →
-    FitsUpTo l.cycle h c.plan.outbound c.outbound × FitsUpTo l.cycle h c.plan.inbound c.inbound
+    (out back h : ℕ) (l : Lists) (entry exit : List ℕ) (r : Result Carried Refusal) → Carries out back h l entry exit r → (plan_numbers (carried_plan r)).code ≡ 0 →
+    FitsUpTo l.cycle h (plan_numbers (carried_plan r)).plan.outbound (carried_of r).outbound
+    × FitsUpTo l.cycle h (plan_numbers (carried_plan r)).plan.inbound (carried_of r).inbound

@@ -89,16 +89,25 @@ pub turning : (cycle n : ℕ) (reds x : List ℕ) (out back : ℕ → ℕ) → S
 turning cycle n reds x out back ok anchors =
     record { goes = ok.goes; on = λ k l. anchor_lt (timed_with cycle n reds out back) x k anchors l (omega (arith, ok.shortest)) }
 
--- and a candidate ranks by the first n entries of its row
+-- and a candidate ranks by its row
 pub candidate_is : (cycle n : ℕ) (reds x : List ℕ) (out back : ℕ → ℕ) (i : ℕ) (row : List (List ℕ)) (r : ℕ) →
-    Sound (timed_with cycle n reds out back) → Reduced (timed_with cycle n reds out back) x → i < n → length (take n row) ≡ n →
-    PairRow cycle n reds x i row → pos r ≡ rank_of (length (take n row)) (take n row) (get_or reds i 0) → r ≡ rank (timed_with cycle n reds out back) i
-candidate_is cycle n reds x out back i row r ok anchors l all filled e =
+    Sound (timed_with cycle n reds out back) → Reduced (timed_with cycle n reds out back) x → i < n →
+    PairRow cycle n reds x i row → pos r ≡ rank_of n row (get_or reds i 0) → r ≡ rank (timed_with cycle n reds out back) i
+candidate_is cycle n reds x out back i row r ok anchors l filled e =
     let s = timed_with cycle n reds out back in
     let turns : 0 < cycle = omega (arith, ok.shortest) in
-    rank_is s (fit_sound s ok) i (take n row) r
+    rank_is s (fit_sound s ok) i row r
     (λ j h.
-    pair-limit s i j (get_or x i 0) (get_or x j 0) (get_or (take n row) j []) turns (ok.goes j h) (anchors.each i l) (anchors.each j h) (get_or-take n row j [] h ∙ filled.each j h))
+    pair-limit s i j (get_or x i 0) (get_or x j 0) (get_or row j []) turns (ok.goes j h) (anchors.each i l) (anchors.each j h) (filled.each j h))
+    e
+
+-- or by the first n entries of a longer one
+pub candidate_front : (cycle n : ℕ) (reds x : List ℕ) (out back : ℕ → ℕ) (i : ℕ) (row : List (List ℕ)) (r : ℕ) →
+    Sound (timed_with cycle n reds out back) → Reduced (timed_with cycle n reds out back) x → i < n → length (take n row) ≡ n →
+    PairRow cycle n reds x i row → pos r ≡ rank_of (length (take n row)) (take n row) (get_or reds i 0) → r ≡ rank (timed_with cycle n reds out back) i
+candidate_front cycle n reds x out back i row r ok anchors l all filled e =
+    candidate_is cycle n reds x out back i (take n row) r ok anchors l
+    (record { each = λ j h. get_or-take n row j [] h ∙ filled.each j h })
     (e ∙ ap (λ (k : ℕ). rank_of k (take n row) (get_or reds i 0)) all)
 
 -- who leads after all candidates is the reference, with B

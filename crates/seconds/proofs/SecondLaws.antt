@@ -5,7 +5,7 @@ use Prim.Native.Nat.{ℕ, ◌+◌, ◌*◌, ◌/◌, ◌%◌, ◌-◌, ◌≤◌
 use mathlib.Core.Path.{◌≡◌, sym, ap, ap₂, ◌∙◌}
 use native.Mathlib.Omega.{arith}
 use native.Mathlib.Nat.{mod-lt, mod-add-div', mod-eq_of_lt, mul-mod_left}
-use lib.IntN.{pos, ◌-ℤ◌}
+use lib.IntN.{pos, ◌+ℤ◌, ◌-ℤ◌}
 use lib.Dec.{eqb}
 use borrow.Author.Tests.{eqb-true}
 use Rattle.circle.specs.Man.{man}
@@ -30,35 +30,46 @@ nearest_is x =
 pub nearest_only : (x s s' : ℕ) → NearestSecond x s → NearestSecond x s' → s ≡ s'
 nearest_only x s s' one other = omega (arith, one.most, one.least, other.most, other.least)
 
--- the start of green, by going back the frame from the offset and the red's length from 0, and then the one from the other
+-- offset plus red, by going back the red's length before 0
+pub red_on : (H centre red : ℕ) → 0 < H → man H (pos centre -ℤ pos (man H (pos 0 -ℤ pos red))) ≡ man H (pos centre +ℤ pos red)
+red_on H centre red some =
+    let before = man_turns H 0 red some in
+    man_is H centre (man H (pos 0 -ℤ pos red)) ((centre + red) % H) (mod-lt (centre + red) some)
+    (record { p = before.p + (centre + red) / H; q = before.q; eq = omega (arith, before.eq, mod-add-div' (centre + red) H) })
+
+-- so the start of green, by going back the frame from the offset and the red's length from 0, and then the one from the other
 pub green_is : (cycle frame offset red centre before green : ℕ) → 0 < cycle → centre ≡ man (2 * cycle) (pos offset -ℤ pos frame) → before ≡ man (2 * cycle) (pos 0 -ℤ pos red) → green ≡ man (2 * cycle) (pos centre -ℤ pos before) → green ≡ green_start cycle frame offset red
 green_is cycle frame offset red centre before green some is back goes =
     let H = 2 * cycle in
-    let around : 0 < H = omega arith in
-    let f = framed cycle frame offset in
-    let turns = man_turns H 0 red around in
     goes
     ∙ ap₂ (λ (x y : ℕ). man H (pos x -ℤ pos y)) is back
-    ∙ man_is H f (man H (pos 0 -ℤ pos red)) ((f + red) % H) (mod-lt (f + red) around)
-    (record { p = turns.p + (f + red) / H; q = turns.q; eq = omega (arith, turns.eq, mod-add-div' (f + red) H) })
+    ∙ red_on H (framed cycle frame offset) red (omega arith)
 
 -- at the end of the cycle the nearest second is the first one again
-pub goes_round : (cycle frame offset red x : ℕ) → seconds_check cycle ≡ (Ok tt) → x ≡ green_start cycle frame offset red → second_ticks * nearest_second x ≡ cycle → 0 ≡ second_of cycle frame offset red
-unfolding second_of
-goes_round cycle frame offset red x whole green full =
+pub goes_round : (cycle x : ℕ) → seconds_check cycle ≡ (Ok tt) → second_ticks * nearest_second x ≡ cycle → 0 ≡ nearest_second x % (cycle / second_ticks)
+goes_round cycle x whole full =
     let all : 1 * (cycle / second_ticks) ≡ nearest_second x = omega (arith, whole-seconds cycle whole) in
     sym (ap (λ (s : ℕ). s % (cycle / second_ticks)) (sym all) ∙ mul-mod_left 1 (cycle / second_ticks))
-    ∙ ap (λ (y : ℕ). nearest_second y % (cycle / second_ticks)) green
 
 -- and before it is one of the cycle's
-pub stays : (cycle frame offset red x : ℕ) → 0 < cycle → seconds_check cycle ≡ (Ok tt) → x ≡ green_start cycle frame offset red → (second_ticks * nearest_second x ≡ cycle → ⊥) → nearest_second x ≡ second_of cycle frame offset red
-unfolding second_of
-stays cycle frame offset red x some whole green other =
+pub stays : (cycle x : ℕ) → seconds_check cycle ≡ (Ok tt) → x < 2 * cycle → (second_ticks * nearest_second x ≡ cycle → ⊥) → nearest_second x ≡ nearest_second x % (cycle / second_ticks)
+stays cycle x whole less other =
     let near = nearest_is x in
+    let below : nearest_second x < cycle / second_ticks = omega (arith, whole-seconds cycle whole, near.most, other) in
+    sym (mod-eq_of_lt below)
+
+-- both of a signal's start of green, whose second a cabinet gets
+pub green_round : (cycle frame offset red x : ℕ) → seconds_check cycle ≡ (Ok tt) → x ≡ green_start cycle frame offset red → second_ticks * nearest_second x ≡ cycle → 0 ≡ second_of cycle frame offset red
+unfolding second_of
+green_round cycle frame offset red x whole green full =
+    goes_round cycle x whole full ∙ ap (λ (y : ℕ). nearest_second y % (cycle / second_ticks)) green
+
+pub green_stays : (cycle frame offset red x : ℕ) → 0 < cycle → seconds_check cycle ≡ (Ok tt) → x ≡ green_start cycle frame offset red → (second_ticks * nearest_second x ≡ cycle → ⊥) → nearest_second x ≡ second_of cycle frame offset red
+unfolding second_of
+green_stays cycle frame offset red x some whole green other =
     let around : 0 < 2 * cycle = omega arith in
     let less : x < 2 * cycle = omega (arith, green, mod-lt (framed cycle frame offset + red) around) in
-    let below : nearest_second x < cycle / second_ticks = omega (arith, whole-seconds cycle whole, near.most, other) in
-    sym (mod-eq_of_lt below) ∙ ap (λ (y : ℕ). nearest_second y % (cycle / second_ticks)) green
+    stays cycle x whole less other ∙ ap (λ (y : ℕ). nearest_second y % (cycle / second_ticks)) green
 
 -- a start of green is nudged: up by 10 halves less some η of 0 to 19
 pub record Nudged (cycle frame offset red : ℕ) : Type 0 where

@@ -12,9 +12,8 @@ use Rattle.street.specs.Lists.{Lists, typed}
 use Rattle.street.specs.declared.Code.{Code}
 use Rattle.street.specs.declared.Code.TheVariants as code
 use Rattle.sheet.specs.Form.{max_bytes}
-use Rattle.sheet.specs.Reading.{sheet_of}
-use Rattle.sheet.specs.Steps.Sections.{section, cycle_section, result_map, InArrays}
-use Rattle.sheet.specs.Steps.Parsed.{parsed, after_cycle, after_signals, at_end}
+use Rattle.sheet.specs.Steps.Sections.{section, cycle_section, InArrays}
+use Rattle.sheet.specs.Steps.Parsed.{parsed, after_cycle, after_signals, at_end, to_reading, reading_of}
 
 pub too_long : (bytes : List ℕ) → max_bytes < length bytes → parsed bytes ≡ Err code.Sheet
 unfolding parsed
@@ -68,7 +67,7 @@ module _ (bytes : List ℕ) (short : length bytes ≤ max_bytes) where
             go (b ∷ end) h = refl
 
         -- with none left, the numbers of the sheet are those in the arrays
-        pub nothing_left : length last ≡ 0 → Ok (record { signals = n; cycle = cycle; reds = reds; distances = distances; outbound = outbound; inbound = inbound }) ≡ result_map sheet_of (parsed bytes)
+        pub nothing_left : length last ≡ 0 → Ok (record { signals = n; cycle = cycle; reds = reds; distances = distances; outbound = outbound; inbound = inbound }) ≡ reading_of bytes
         nothing_left h =
             ap Ok
             (λ i. record {
@@ -79,7 +78,7 @@ module _ (bytes : List ℕ) (short : length bytes ≤ max_bytes) where
               outbound = speeds.in_left i;
               inbound = speeds.in_right i;
             })
-            ∙ sym (ap (result_map sheet_of) (from_links_lem ∙ go last h))
+            ∙ sym (ap to_reading (from_links_lem ∙ go last h))
           where
             go : (end : List ℕ) → length end ≡ 0 → at_end numbers end ≡ Ok numbers
             go [] h = refl

@@ -1,5 +1,5 @@
 -- What the reader answers: the numbers of a street, or a refusal (01, 'The street sheet' and 'Codes, in order of checking').
-use Rattle.std.specs.Prelude.{ℕ, ◌-◌, ◌≡◌, List, ◌++◌, length, take, drop, replicate, Result, Ok, Err}
+use Rattle.std.specs.Prelude.{ℕ, ◌-◌, ◌≡◌, List, [], ◌++◌, length, take, drop, replicate, Result, Ok, Err}
 use Rattle.road.specs.Limits.{max_signals}
 use Rattle.street.specs.Lists.{Lists, signals, typed}
 use Rattle.street.specs.declared.Code.{Code}
@@ -28,9 +28,18 @@ abbrev pub lists_of : Sheet → Lists
 lists_of s =
     typed s.cycle (take s.signals s.reds) (take s.signals s.distances) (take (s.signals - 1) s.outbound) (take (s.signals - 1) s.inbound)
 
+-- a sheet of which every number is 0
+abbrev pub no_sheet : Sheet
+no_sheet = sheet_of (typed 0 [] [] [] [])
+
 -- a reading: a street's numbers, or a refusal, which has none
 abbrev pub Reading : Type 0
 Reading = Result Sheet Refusal
+
+-- the sheet of a reading, with numbers that are all 0 beside a refusal
+abbrev pub sheet_beside : Reading → Sheet
+sheet_beside (Ok s) = s
+sheet_beside (Err f) = no_sheet
 
 -- a street that was read has its numbers
 abbrev pub passing : Lists → Reading

@@ -2,15 +2,16 @@
 // A number is read up to the byte that ends it, a section is its count and its lines, and the first fault decides.
 #![tactic(auto)]
 
-ghost use Rattle.std.specs.Prelude.{◌≡◌, ◌≤◌, ◌⊎◌, IfSome, MatchOption, MatchResult, option_map};
+ghost use Rattle.std.specs.Prelude.{◌≡◌, ◌≤◌, ◌⊎◌, IfSome, MatchOption, MatchResult, Ok, Err, option_map};
 ghost use Rattle.road.specs.Limits.{max_signals};
 ghost use Rattle.road.specs.Steps.{Zeros};
 ghost use Rattle.sheet.specs.Form.{max_bytes};
-ghost use Rattle.sheet.specs.Reading.{sheet_of, lists_of, Reads};
+ghost use Rattle.street.specs.Verdicts.{answered};
+ghost use Rattle.sheet.specs.Reading.{lists_of, no_sheet, sheet_beside, Reads};
 ghost use Rattle.sheet.specs.Steps.Held.{Held};
 ghost use Rattle.sheet.specs.Steps.Numbers.{digit_of, number, more};
 ghost use Rattle.sheet.specs.Steps.Sections.{pair, pairs, in_arrays, result_map, judged_count, section, cycle_section, InArrays};
-ghost use Rattle.sheet.specs.Steps.Parsed.{parsed};
+ghost use Rattle.sheet.specs.Steps.Parsed.{reading_of};
 
 use decimal::{LINE_END, SPACE};
 use street::{Code, Lists, Refusal, Street};
@@ -29,6 +30,15 @@ pub struct Sheet {
 impl Sheet {
     // A longer sheet is refused before anything of it is read.
     pub const MAX_BYTES: usize = 2_048;
+    // Numbers that are all 0, as they stand before a sheet is read and beside a refusal.
+    pub const NONE: Sheet = Sheet {
+        signals: 0,
+        cycle: 0,
+        reds: [0; Street::MAX_SIGNALS],
+        distances: [0; Street::MAX_SIGNALS],
+        outbound: [0; Street::MAX_SIGNALS],
+        inbound: [0; Street::MAX_SIGNALS],
+    };
 
     // The lists that the arrays hold, as a caller hands them on.
     pub fn lists(&self) -> Lists<'_>
@@ -46,9 +56,10 @@ impl Sheet {
     }
 }
 
-// The limit of the code is that of the definition. The body is empty: the contract is all there is to this.
+// The limit of the code is that of the definition, and so are its zeros. The body is empty: the contract is all there is to this.
 fn limits()
-    ensures { Sheet.MAX_BYTES ≡ max_bytes }
+    ensures bytes { Sheet.MAX_BYTES ≡ max_bytes }
+    ensures zeros { Sheet.NONE ≡ no_sheet }
 {}
 
 // The value of a byte that is a digit.
@@ -66,24 +77,27 @@ fn digit(byte: u8) -> Option<u32>
 // The rest of a number of which some digits are read, up to the byte that has to end it: its value and the bytes behind that byte. A
 // digit after a value of 0 would make that a leading zero, and one after more than 9,999,999 would be the ninth.
 #[tactic(auto, unfolding(crate::specs::Steps::Numbers::more))]
-fn digits(bytes: &[u8], value: u32, end: u8) -> Option<(u32, &[u8])>
+fn digits(bytes: &[u8], first: u32, end: u8) -> Option<(u32, &[u8])>
     requires { (end ≡ 32) ⊎ (end ≡ 10) }
-    ensures { option_map (λ t. (t.0, t.1.now)) result ≡ more end value bytes.now }
+    ensures { option_map (λ t. (t.0, t.1.now)) result ≡ more end first bytes.now }
 {
-    let Some((byte, rest)) = bytes.split_first() else {
-        return None;
-    };
-    match *byte {
-        48..=57 => {
-            if value == 0 || value > 9_999_999 {
-                return None;
+    let mut value = first;
+    let mut rest = bytes;
+    while let Some((byte, behind)) = rest.split_first() {
+        match *byte {
+            48..=57 => {
+                if value == 0 || value > 9_999_999 {
+                    return None;
+                }
+                value = 10 * value + (*byte - 48) as u32;
+                rest = behind;
             }
-            digits(rest, 10 * value + (*byte - 48) as u32, end)
+            32 if end == SPACE => return Some((value, behind)),
+            10 if end == LINE_END => return Some((value, behind)),
+            _ => return None,
         }
-        32 if end == SPACE => Some((value, rest)),
-        10 if end == LINE_END => Some((value, rest)),
-        _ => None,
     }
+    None
 }
 
 // The number at the start of some bytes, and those behind the byte that has to end it.
@@ -181,44 +195,62 @@ fn cycle(bytes: &[u8]) -> Option<(u32, &[u8])>
     number(rest, LINE_END)
 }
 
-// The numbers of a sheet, section by section; or the code of its first fault. A signal's line has its distance before its red, a link's
-// its outbound speed before its inbound one.
-fn parse(bytes: &[u8]) -> Result<Sheet, Code>
-    ensures { result ≡ result_map sheet_of (parsed bytes.now) }
+// A fault of a sheet, of which no place is named.
+fn fault(code: Code) -> Refusal
+    ensures { result ≡ record { code = code; place = 0 } }
+{
+    Refusal { code, place: 0 }
+}
+
+// Reads the numbers of a sheet, section by section, where zeros stand; or answers the refusal of the first fault, and leaves what was read
+// before it. A signal's line has its distance before its red, a link's its outbound speed before its inbound one.
+fn parse(bytes: &[u8], sheet: &mut Sheet) -> Result<(), Refusal>
+    requires { Zeros sheet.old.reds × Zeros sheet.old.distances × Zeros sheet.old.outbound × Zeros sheet.old.inbound }
+    ensures { MatchResult result (λ _. reading_of bytes.now ≡ Ok sheet.new) (λ refusal. reading_of bytes.now ≡ Err refusal) }
 {
     if bytes.len() > Sheet::MAX_BYTES {
-        return Err(Code::Sheet);
+        return Err(fault(Code::Sheet));
     }
-    let mut reds = [0; Street::MAX_SIGNALS];
-    let mut distances = [0; Street::MAX_SIGNALS];
-    let mut outbound = [0; Street::MAX_SIGNALS];
-    let mut inbound = [0; Street::MAX_SIGNALS];
-    let (cycle, rest) = cycle(bytes).ok_or(Code::Sheet)?;
+    let (cycle, rest) = cycle(bytes).ok_or(fault(Code::Sheet))?;
     let (signals, rest) = section(
         rest,
         Street::MIN_SIGNALS,
         Street::MAX_SIGNALS,
-        &mut distances,
-        &mut reds,
-    )?;
+        &mut sheet.distances,
+        &mut sheet.reds,
+    )
+    .map_err(|code| fault(code))?;
     let links = signals - 1;
-    let (_, rest) = section(rest, links, links, &mut outbound, &mut inbound)?;
+    let (_, rest) = section(rest, links, links, &mut sheet.outbound, &mut sheet.inbound).map_err(
+        |code| fault(code),
+    )?;
     if !rest.is_empty() {
-        return Err(Code::Sheet);
+        return Err(fault(Code::Sheet));
     }
-    Ok(Sheet {
-        signals,
-        cycle,
-        reds,
-        distances,
-        outbound,
-        inbound,
-    })
+    sheet.signals = signals;
+    sheet.cycle = cycle;
+    Ok(())
 }
 
-// The numbers of a sheet; or the refusal of its first fault, which has code 1 or 2 and place 0.
+// The numbers of a sheet, where four arrays of zeros stood; or the refusal of its first fault, which has code 1 or 2 and place 0, and zeros
+// again. So a caller has the numbers where they are to be, and none is copied.
+pub fn fill(bytes: &[u8], sheet: &mut Sheet) -> Result<(), Refusal>
+    requires { Zeros sheet.old.reds × Zeros sheet.old.distances × Zeros sheet.old.outbound × Zeros sheet.old.inbound }
+    ensures reading { Reads bytes.now (answered result sheet.new) }
+    ensures beside { sheet.new ≡ sheet_beside (answered result sheet.new) }
+{
+    let verdict = parse(bytes, sheet);
+    if verdict.is_err() {
+        *sheet = Sheet::NONE;
+    }
+    verdict
+}
+
+// The same with the numbers in the reply.
 pub fn read(bytes: &[u8]) -> Result<Sheet, Refusal>
     ensures { Reads bytes.now result }
 {
-    parse(bytes).map_err(|code| Refusal { code, place: 0 })
+    let mut sheet = Sheet::NONE;
+    parse(bytes, &mut sheet)?;
+    Ok(sheet)
 }

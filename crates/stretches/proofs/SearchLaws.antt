@@ -14,7 +14,7 @@ use borrow.Author.Tests.{lt-ltb}
 use Rattle.circle.specs.Man.{man}
 use Rattle.circle.specs.Bands.{Way}
 use Rattle.circle.proofs.Numbers.{man_is, man_turns}
-use Rattle.circle.proofs.Stretches.{since, Proper, longest, left, end_at, since_end, from, Best, NoWorse, best_more, best_band}
+use Rattle.circle.proofs.Stretches.{since, Proper, longest, left, end_at, since_end, from, Best, NoWorse, best_none, best_more, best_band}
 use Rattle.std.proofs.lemmas.Grind.{common_steps}
 use Rattle.stretches.specs.declared.Band.{Band}
 use Rattle.stretches.specs.Stretches.{band_of}
@@ -87,6 +87,10 @@ module _ (h n : ℕ) (red : ℕ → ℕ) (ends : List ℕ) (ok : Fitting h n red
       let is : since w x j ≡ man h (pos x -ℤ pos (get_or ends j 0)) =
       since_end w proper_seen x j ∙ ap (λ (e : ℕ). man h (pos x -ℤ pos e)) (end_seen j l) in
       ap₂ (λ t (z : ℕ). cond t (h - (w.length j + z)) h) (some_halves (red j)) (sym is)
+
+  -- before any candidate the best is the stretch from 0
+  pub none_seen : (v : ℕ) → v ≡ longest (seen_by h n red ends) 0 → BestBand (seen_by h n red ends) 0 (record { width = v; start = 0 })
+  none_seen v is = let w = seen_by h n red ends in subst (λ (u : ℕ). Best w 0 u 0) (sym is) (best_none w proper_seen)
 
   -- a signal with a red: the wider of the best before i and of the stretch from the instant at i
   pub more-seen : (i width : ℕ) (a b : Band) → i < n → BestBand (seen_by h n red ends) i a → width ≡ longest (seen_by h n red ends) (get_or ends i 0) → b ≡ wider_of a (record { width = width; start = get_or ends i 0 }) → BestBand (seen_by h n red ends) (i + 1) b

@@ -186,9 +186,12 @@ module _ (cycle : ℕ) (kinds : List ℕ) (positions outbound inbound : List Flo
   pub lists_miscounted : (f : Refusal) → lengths_of ≡ Ok tt → row_count_check (length reds) ≡ Err f → Err f ≡ lists_reading cycle kinds positions outbound inbound reds
   lists_miscounted f e g = miscounted cycle (length reds) row_of f g ∙ lists_even e
 
-  pub lists_read : lengths_of ≡ Ok tt → row_count_check (length reds) ≡ Ok tt → (row : ℕ → Row) → ((j : ℕ) → j < length reds → row j ≡ row_of j) → rows_reading cycle (length reds) row ≡ lists_reading cycle kinds positions outbound inbound reds
-  lists_read e g row same =
-      well_counted cycle (length reds) row g ∙ reading_same (length reds) row row_of same cycle ∙ lists_even e
+  pub lists_read : lengths_of ≡ Ok tt → (row : ℕ → Row) → ((j : ℕ) → j < length reds → row j ≡ row_of j) → survey_reading cycle (length reds) row ≡ lists_reading cycle kinds positions outbound inbound reds
+  lists_read e row same = reading_same (length reds) row row_of same cycle ∙ lists_even e
+
+  -- the same of rows that are as many as there may be
+  pub counted_read : lengths_of ≡ Ok tt → row_count_check (length reds) ≡ Ok tt → (row : ℕ → Row) → ((j : ℕ) → j < length reds → row j ≡ row_of j) → rows_reading cycle (length reds) row ≡ lists_reading cycle kinds positions outbound inbound reds
+  counted_read e g row same = well_counted cycle (length reds) row g ∙ lists_read e row same
 
 -- lists of one length
 pub record Even (n kinds positions outbound inbound : ℕ) : Type 0 where

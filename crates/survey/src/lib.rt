@@ -119,7 +119,8 @@ fn placed(before: u32, position: Position) -> Option<u32>
     }
 }
 
-// A row after one whose running distance is known, unless it is bad.
+// A row after one whose running distance is known, unless it is bad. A call for each row would cost more than the row.
+#[inline(always)]
 #[tactic(auto, using(eighths::proofs::Meaning::eighths_small), unfolding(crate::specs::Steps::judged_as))]
 fn judge(before: u32, row: Row) -> Option<Judged>
     requires { before ≤ max_eighths }

@@ -2,8 +2,7 @@
 use Rattle.std.specs.Prelude.{ℕ, ◌≤◌, ◌≡◌, List, length, take, Ok}
 use Rattle.street.specs.Lists.{Lists}
 use Rattle.street.specs.Checks.{first_fault, street_checks}
-use Rattle.sheet.specs.Reading.{lists_of, passing, Reading, Reads}
-use Rattle.sheet.specs.declared.Sheet.{Sheet}
+use Rattle.sheet.specs.Reading.{lists_of, sheet_beside, passing, Reading, Reads}
 use Rattle.writer.specs.Writing.{Writing, WritesSheet, writing_numbers}
 
 -- the most bytes that the sheet of a street has which passes the checks of 01
@@ -30,8 +29,8 @@ ReadsBack =
     (l : Lists) (entry exit : List ℕ) (r : Writing) (reading : Reading) → WritesSheet l entry exit r → (writing_numbers r).code ≡ 0 →
     Reads (sheet_in exit r) reading → reading ≡ passing l
 
--- a sheet that was read, written again from the numbers that it gave, has the same bytes
+-- a sheet that was read, written again from the numbers that it gave, has the same bytes; the numbers of a refused sheet are never written
 abbrev pub WritesAgain : Type 0
 WritesAgain =
-    (bytes : List ℕ) (sheet : Sheet) (entry exit : List ℕ) (r : Writing) → Reads bytes (Ok sheet) →
-    WritesSheet (lists_of sheet) entry exit r → (writing_numbers r).code ≡ 0 → sheet_in exit r ≡ bytes
+    (bytes : List ℕ) (reading : Reading) (entry exit : List ℕ) (r : Writing) → Reads bytes reading →
+    WritesSheet (lists_of (sheet_beside reading)) entry exit r → (writing_numbers r).code ≡ 0 → sheet_in exit r ≡ bytes

@@ -1,12 +1,11 @@
 -- `cabinets::plan_for` meets its contract: a refusal by the plan's call, whose checks are the same from 13 on; a plan by the call's own answer, whose offsets become seconds.
-use Rattle.std.proofs.Common.{rules, ℕ, ◌≡◌, ◌≤◌, ◌<◌, ◌*◌, List, ap, sym, subst, ◌∙◌, ◌++◌, length, drop, get_or, Ok, Err}
-use Rattle.circle.specs.Over.{list_below}
-use Rattle.street.specs.Limits.{max_cycle}
+use Rattle.std.proofs.Common.{arith, rules, ℕ, ◌≡◌, ◌≤◌, List, ap, sym, subst, ◌∙◌, length, Ok, Err}
+use Rattle.street.specs.Limits.{min_cycle, max_cycle}
 use Rattle.street.specs.Lists.{Lists}
-use Rattle.seconds.specs.Seconds.{seconds_check, second_of}
+use Rattle.seconds.specs.Seconds.{seconds_check}
 use Rattle.seconds.specs.Steps.{Offsets}
 use Rattle.cabinets.specs.Calls.{InSeconds}
-use Rattle.cabinets.proofs.CallLaws.{as_plan, plan-refused, convert_ready, plan_converted}
+use Rattle.cabinets.proofs.CallLaws.{as_plan, plan-refused, convert_ready, held_converted}
 use Rattle.cabinets.proofs.plan_for.Goals as goal
 
 -- the cycle of the lists as they are held passed 13
@@ -27,11 +26,12 @@ convert-requires c =
     let l = c.args.street.now in
     let lent : List ℕ = c.args.seconds.now in
     let mid : List ℕ = c.plan_for.new.offsets in
-    let passed = whole _ l c.street.view_is (sym c.check.ensures ∙ c.in_ok-check.was) in
-    let same = as_plan c.args.request l (length lent) passed in
-    let (short, some, offsets) = convert_ready c.args.request l lent mid c.plan_for.result c.plan_for.ensures same _ c.in_ok-plan.was in
-    subst (λ (x : Lists). (x.cycle ≤ max_cycle) × (seconds_check x.cycle ≡ Ok tt) × (0 < 2 * x.cycle) × Offsets x.cycle x.reds mid) (sym c.street.view_is)
-    (short, passed, some, offsets)
+    let whole_held = sym c.check.ensures ∙ c.in_ok-check.was in
+    let same = as_plan c.args.request l (length lent) (whole _ l c.street.view_is whole_held) in
+    let held =
+    subst (λ (x : Lists). (x.cycle ≤ max_cycle) × (min_cycle ≤ x.cycle) × Offsets x.cycle x.reds mid) (sym c.street.view_is)
+    (convert_ready c.args.request l lent mid c.plan_for.result c.plan_for.ensures same _ c.in_ok-plan.was) in
+    (held.0, whole_held, omega (arith, held.1), held.2)
 
 pub returns : goal.returns
 returns c =
@@ -39,5 +39,4 @@ returns c =
     let lent : List ℕ = c.args.seconds.now in
     let mid : List ℕ = c.plan_for.new.offsets in
     let same = as_plan c.args.request l (length lent) (whole _ l c.street.view_is (sym c.check.ensures ∙ c.in_ok-check.was)) in
-    plan_converted c.args.request l lent mid c.plan_for.result c.plan_for.ensures same _ c.in_ok-plan.was _
-    (c.convert.ensures ∙ ap (λ (x : Lists). list_below (length x.reds) (λ j. second_of x.cycle 0 (get_or mid j 0) (get_or x.reds j 0)) ++ drop (length x.reds) mid) c.street.view_is)
+    held_converted c.args.request l lent mid c.plan_for.result c.plan_for.ensures same _ c.in_ok-plan.was _ _ c.street.view_is c.convert.ensures

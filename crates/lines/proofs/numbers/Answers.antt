@@ -2,5 +2,5 @@
 use Rattle.std.proofs.Common.{arith}
 use Rattle.lines.proofs.numbers.Goals as goal
 
-pub push-requires : goal.push-requires
-push-requires c = (omega arith, omega arith)
+pub bounds-entries-count : goal.bounds-entries-count
+bounds-entries-count c = omega arith

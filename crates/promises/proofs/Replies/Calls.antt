@@ -1,6 +1,6 @@
 -- The promises of a call's reply. Code 0 is given only where the checks found no fault, and then the contract makes the reply's numbers those of the request's plan and the first entries of
 -- the lent list its offsets: so what a plan keeps, the reply keeps. Nothing is lowered in the equal plan, so it is the method's own. Assumes nothing.
-use Rattle.std.specs.Prelude.{Ok, Err}
+use Rattle.std.specs.Prelude.{Result, Ok, Err, IfOk}
 use Prim.Native.Nat.{ℕ, ◌+◌, ◌≤◌, ◌<◌}
 use mathlib.Core.Path.{◌≡◌, refl, sym, ap, subst, ◌∙◌}
 use mathlib.Core.Bool.{true}
@@ -17,6 +17,7 @@ use Rattle.street.specs.Lists.{Lists, signals}
 use Rattle.street.specs.Checks.{or_next, plan_checks, written}
 use Rattle.street.specs.Streets.{m, timed}
 use Rattle.street.specs.declared.Code.TheVariants.{Width}
+use Rattle.street.specs.declared.Refusal.{Refusal}
 use Rattle.street.specs.Verdicts.{Verdict}
 use Rattle.street.proofs.CheckLaws.{passes, code_some}
 use Rattle.street.proofs.Passed.{first_passed, rest_passed}
@@ -34,7 +35,9 @@ use Rattle.offsets.proofs.MovedLaws.{unmoved_offset}
 use Rattle.plans.specs.Answers.{plan_numbers}
 use Rattle.street.specs.Verdicts.{verdict_of, answered}
 use Rattle.plans.specs.Requests.{moved_plan, request_checks, Requested}
+use Rattle.plans.specs.Volumes.{carried_plan, carried_of, LargestFor}
 use Rattle.plans.specs.declared.Plan.{Plan}
+use Rattle.plans.specs.declared.Carried.{Carried}
 use Rattle.plans.specs.Answers.{Answer}
 use Rattle.promises.specs.Exact.{rounded_ways, exact_ways}
 use Rattle.promises.specs.Replies.{Kept, KeptRounded, KeptExact, EqualIsMethod, OneSided, FitsUpTo, LargestVolumes}
@@ -169,6 +172,12 @@ fits_up_to : (C h w most : ℕ) → Largest C h w most → FitsUpTo C h w most
 fits_up_to C h w most is volume small =
     (λ l. omega (arith, longer C h volume most (omega arith), is.fits), largest_of_all C h w most volume is small)
 
+reply_fits :
+    (C h : ℕ) (r : Result Carried Refusal) → IfOk r (LargestFor C h) → (plan_numbers (carried_plan r)).code ≡ 0 →
+    FitsUpTo C h (plan_numbers (carried_plan r)).plan.outbound (carried_of r).outbound
+    × FitsUpTo C h (plan_numbers (carried_plan r)).plan.inbound (carried_of r).inbound
+reply_fits C h (Ok c) is code = (fits_up_to C h c.plan.outbound c.outbound is.0, fits_up_to C h c.plan.inbound c.inbound is.1)
+reply_fits C h (Err f) is code = absurd (omega (arith, code_some f.code))
+
 pub largest_volumes : LargestVolumes
-largest_volumes out back h l entry exit c call =
-    (fits_up_to l.cycle h c.plan.outbound c.outbound call.volumes.0, fits_up_to l.cycle h c.plan.inbound c.inbound call.volumes.1)
+largest_volumes out back h l entry exit r call = reply_fits l.cycle h r call.volumes

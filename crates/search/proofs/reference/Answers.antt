@@ -1,7 +1,7 @@
 use Rattle.std.proofs.Common.{ℕ, ◌+◌, ◌<◌, ◌≡◌, sym, subst, subst₂, [], length, get_or, arith, length-set}
 use Rattle.circle.proofs.Formulas.{rank}
 use Rattle.street.specs.Steps.{timed_with}
-use Rattle.search.proofs.Leading.{leader_is, Leading, leads_first, leads_new, leads_still, row_set, fit_sound, candidate_is}
+use Rattle.search.proofs.Leading.{leader_is, Leading, leads_first, leads_new, leads_still, row_set, fit_sound, candidate_front}
 use Rattle.search.specs.Steps.{PairRow, Finds}
 use Rattle.search.proofs.reference.Goals as goal
 use Rattle.search.proofs.reference.Goals.{then-most-candidate, else-most-candidate}
@@ -22,7 +22,7 @@ pub loop-k-init : goal.loop-k-init
 loop-k-init c =
     let a = c.args in
     let rows = c.loop-i in
-    λ out back ok anchors. leads_first _ _ (candidate_is a.cycle _ a.reds.now a.anchors.now out back 0 (get_or rows.widths 0 []) c.rank-most.result ok anchors (omega arith) (omega arith) (rows.invariant.1 0 (omega arith)) c.rank-most.ensures)
+    λ out back ok anchors. leads_first _ _ (candidate_front a.cycle _ a.reds.now a.anchors.now out back 0 (get_or rows.widths 0 []) c.rank-most.result ok anchors (omega arith) (omega arith) (rows.invariant.1 0 (omega arith)) c.rank-most.ensures)
 
 pub loop-k-preserved : goal.loop-k-preserved
 loop-k-preserved c =
@@ -36,7 +36,7 @@ loop-k-preserved c =
     let g = rank (timed_with a.cycle n a.reds.now out back) in
     let lead = loop.invariant out back ok anchors in
     let here =
-    candidate_is a.cycle n a.reds.now a.anchors.now out back k (get_or rows.widths k []) new.result ok anchors (omega arith) (omega arith) (rows.invariant.1 k (omega arith)) new.ensures in
+    candidate_front a.cycle n a.reds.now a.anchors.now out back k (get_or rows.widths k []) new.result ok anchors (omega arith) (omega arith) (rows.invariant.1 k (omega arith)) new.ensures in
     elim c.if-most-candidate.branch [
       | then-most-candidate w ↦ subst₂ (Leading g (k + 1)) (sym w.signal-is) (sym w.most-is) (leads_new g k loop.signal loop.most new.result lead w.if-most-candidate.true here)
       | else-most-candidate w ↦ subst₂ (Leading g (k + 1)) (sym w.signal-is) (sym w.most-is) (leads_still g k loop.signal loop.most new.result lead w.if-most-candidate.false here)

@@ -1,21 +1,14 @@
--- `read` meets its contract: what `parse` found is the reading of the bytes, a code being a refusal at place 0.
-use mathlib.Core.Path.{◌≡◌}
-use borrow.Author.Rules.{rules}
-use Rattle.std.specs.Prelude.{Result, Ok, Err, MatchResult}
-use Rattle.street.specs.Lists.{Lists}
-use Rattle.street.specs.declared.Code.{Code}
-use Rattle.sheet.specs.Reading.{Reading, sheet_of}
-use Rattle.sheet.specs.declared.Sheet.{Sheet}
-use Rattle.sheet.specs.Steps.Sections.{result_map}
-use Rattle.sheet.specs.Steps.Parsed.{parsed, to_reading}
+-- `read` meets its contract: what `parse` found is the reading of the bytes.
+use mathlib.Core.Path.{sym, ap, ◌∙◌}
+use Rattle.std.proofs.lemmas.Result.{err_from_is_err_and}
+use Rattle.std.specs.Prelude.{Err}
 use Rattle.sheet.proofs.ByForm.{reads}
 use Rattle.sheet.proofs.read.Goals as goal
 
-answered : (p : Result Lists Code) (r : Result Sheet Code) (m : Reading) → r ≡ result_map sheet_of p → MatchResult r (λ x. m ≡ Ok x) (λ c. m ≡ Err (record { code = c; place = 0 })) → m ≡ to_reading p
-answered (Ok l) r m e h = rw e at h
-answered (Err c) r m e h = rw e at h
+pub returns-in_err-parse : goal.returns-in_err-parse
+returns-in_err-parse c =
+    let p = err_from_is_err_and c.from_residual.result c.from_residual.ensures.1 in
+    reads (p.1 ∙ ap Err p.2 ∙ sym c.in_err-parse.ensures)
 
 pub returns : goal.returns
-returns c =
-    let is : MatchResult c.parse.result (λ x. c.map_err.result ≡ Ok x) (λ e. c.map_err.result ≡ Err (record { code = e; place = 0 })) = search rules in
-    reads (answered (parsed c.args.bytes.now) c.parse.result c.map_err.result c.parse.ensures is)
+returns c = reads (sym c.in_ok-parse.ensures)

@@ -6,9 +6,18 @@ use Rattle.std.proofs.lemmas.List.{length-take, take_all}
 use Rattle.circle.proofs.Stretches.{best_passed}
 use Rattle.stretches.specs.declared.Band.{Band}
 use Rattle.stretches.specs.Steps.{seen_by, longest_from}
-use Rattle.stretches.proofs.SearchLaws.{BestBand, more-seen, best_seen}
+use Rattle.stretches.proofs.SearchLaws.{BestBand, none_seen, more-seen, best_seen}
 use Rattle.stretches.proofs.widest.Goals as goal
 use Rattle.stretches.proofs.widest.Goals.{then-red-gt0, else-red-gt0}
+
+pub loop-i-init : goal.loop-i-init
+loop-i-init c =
+    let a = c.args in
+    let red : ℕ → ℕ = λ j. get_or a.reds.now j 0 in
+    let whole = take_all c.bounded.result a.reds.now (omega arith) in
+    none_seen a.h (length a.reds.now) red a.ends.now c.requires.2 c.longest-from_zero.result
+    (c.longest-from_zero.ensures
+    ∙ ap (λ reds. longest_from (seen_by a.h (length reds) (λ j. get_or reds j 0) a.ends.now) 0) whole)
 
 pub loop-i-preserved : goal.loop-i-preserved
 loop-i-preserved c =

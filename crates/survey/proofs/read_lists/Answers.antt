@@ -8,7 +8,7 @@ use Rattle.std.proofs.lemmas.List.{get_or-take}
 use Rattle.survey.specs.declared.Row.{Row}
 use Rattle.survey.specs.Typing.{in_rows}
 use Rattle.survey.specs.Steps.{rows_reading}
-use Rattle.survey.proofs.TypingLaws.{row_range, even_lists, lists_miscounted, lists_read}
+use Rattle.survey.proofs.TypingLaws.{row_range, even_lists, lists_miscounted, counted_read}
 use Rattle.survey.proofs.read_lists.Goals as goal
 
 -- the rows that are lent are as many as are counted
@@ -52,4 +52,4 @@ returns c =
     let many = part n rows (omega (arith, c.gathered-rows.ensures.room, range.high)) in
     c.typed.ensures
     ∙ ap (λ (k : ℕ). rows_reading a.cycle k (in_rows (take n rows))) (sym many)
-    ∙ lists_read a.cycle a.kinds.now a.positions.now a.outbound.now a.inbound.now a.reds.now (sym c.lengths.ensures ∙ c.in_ok-lengths.was) counted (in_rows (take n rows)) (λ j l. get_or-take n rows j _ l ∙ c.gathered-rows.ensures.rows j l)
+    ∙ counted_read a.cycle a.kinds.now a.positions.now a.outbound.now a.inbound.now a.reds.now (sym c.lengths.ensures ∙ c.in_ok-lengths.was) counted (in_rows (take n rows)) (λ j l. get_or-take n rows j _ l ∙ c.gathered-rows.ensures.rows j l)

@@ -5,8 +5,8 @@ use native.Mathlib.Decide.{dec_le}
 use borrow.Author.Tests.{ne_eqb, le-leb, lt-leb}
 use Rattle.street.specs.Checks.{within}
 use Rattle.sheet.specs.Steps.Numbers.{digit_of, more}
-use Rattle.sheet.proofs.+digits.Goals.{in_default-byte-via-in-32+else-end-eq-SPACE, in_default-byte-via-in-10+else-end-eq-LINE_END, in_default-byte-via-in_default+then-byte-lt48, in_default-byte-via-in_default+else-byte-lt48+else-byte-lt58}
-use Rattle.sheet.proofs.+digits.Goals as goal
+use Rattle.sheet.proofs.digits.Goals.{in_default-byte-via-in-32+else-end-eq-SPACE, in_default-byte-via-in-10+else-end-eq-LINE_END, in_default-byte-via-in_default+then-byte-lt48, in_default-byte-via-in_default+else-byte-lt48+else-byte-lt58}
+use Rattle.sheet.proofs.digits.Goals as goal
 
 goes_on : (end value b : ℕ) (rest : List ℕ) → (b ≡ end → ⊥) → 48 ≤ b → b ≤ 57 → 1 ≤ value → value ≤ 9999999 → more end (10 * value + (b - 48)) rest ≡ more end value (b ∷ rest)
 unfolding more digit_of
@@ -40,17 +40,21 @@ not_end : (b end : ℕ) → (end ≡ 32) ⊎ (end ≡ 10) → (b ≡ 32 → ⊥)
 not_end b end (inl e) space line same = space (same ∙ e)
 not_end b end (inr e) space line same = line (same ∙ e)
 
-pub returns-else-value-gt9999999 : goal.returns-else-value-gt9999999
-returns-else-value-gt9999999 t c =
+pub loop-byte-preserved : goal.loop-byte-preserved
+loop-byte-preserved c =
     let b = c.in-Some.byte.now in
+    let end = c.args.end in
     let low : 48 ≤ b = omega arith in
-    let some : 1 ≤ c.args.value = omega arith in
-    c.digits.ensures
-    ∙ goes_on c.args.end c.args.value b c.in-Some.rest.now (apart b c.args.end c.requires low) low (omega arith) some c.if-value-gt9999999.false
-    ∙ ap (more c.args.end c.args.value) (sym c.in-Some.ensures.cases.0)
+    let some : 1 ≤ c.loop-byte.value = omega arith in
+    record {
+      same =
+          goes_on end c.loop-byte.value b c.in-Some.behind.now (apart b end c.requires low) low (omega arith) some (omega arith)
+          ∙ ap (more end c.loop-byte.value) (sym c.in-Some.ensures.cases.0)
+          ∙ c.loop-byte.invariant.same;
+    }
 
 pub returns-in_default-byte : goal.returns-in_default-byte
-returns-in_default-byte t c =
+returns-in_default-byte c =
     let b = c.in-Some.byte.now in
     let end = c.args.end in
     let facts : (b ≡ end → ⊥) × (48 ≤ b → b ≤ 57 → ⊥) =
@@ -60,4 +64,4 @@ returns-in_default-byte t c =
       | in_default-byte-via-in_default+then-byte-lt48 w ↦ (not_end b end c.requires (λ e. omega arith) (λ e. omega arith), λ l h. omega arith)
       | in_default-byte-via-in_default+else-byte-lt48+else-byte-lt58 w ↦ (not_end b end c.requires (λ e. omega arith) (λ e. omega arith), λ l h. omega arith)
     ] in
-    stops end c.args.value b c.in-Some.rest.now facts.0 facts.1 ∙ ap (more end c.args.value) (sym c.in-Some.ensures.cases.0)
+    stops end c.loop-byte.value b c.in-Some.behind.now facts.0 facts.1 ∙ ap (more end c.loop-byte.value) (sym c.in-Some.ensures.cases.0) ∙ c.loop-byte.invariant.same
