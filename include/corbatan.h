@@ -72,9 +72,9 @@
 
 /*
  * How many bytes of stack are enough for any of the calls, with its arguments and its reply. client/stack.c measures
- * what they take, on streets of up to 32 signals, on requests and on refusals: corbatan_print 12,712, the calls for
- * seconds at most 10,312, any other plan at most 10,136, corbatan_survey 4,152, corbatan_measure 2,168, corbatan_read
- * 1,344, corbatan_write 1,072; another kit may give a few bytes more or less. The rest is room, as for the dynamic
+ * what they take, on streets of up to 32 signals, on requests and on refusals: corbatan_print 13,680, the calls for
+ * seconds at most 10,624, any other plan at most 10,512, corbatan_survey 4,424, corbatan_measure 1,824, corbatan_read
+ * 1,328, corbatan_write 1,032; another kit may give a few bytes more or less. The rest is room, as for the dynamic
  * linker, which takes some 2,000 bytes of the caller's stack where it binds memcpy or memset at their first use.
  */
 #define CORBATAN_STACK 20480
